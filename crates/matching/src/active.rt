@@ -1,0 +1,56 @@
+// The active order, and what decides whom it may meet.
+use market::codes::Contra;
+use market::codes::Peg;
+use market::codes::Seek;
+use market::codes::Side;
+use market::quotes::Quote;
+use market::sizes::Size;
+
+// What an active order is: an SDL order, or a Dark order.
+#[derive(Clone, Copy)]
+pub enum Form {
+    Sdl { limit: u32, seek: Seek, size: Size },
+    Dark { peg: Peg, cap: u32, contra: Contra, key: u32 },
+}
+
+// An order that sweeps.
+#[derive(Clone, Copy)]
+pub struct Active<R> {
+    pub member: u32,
+    pub reference: R,
+    pub side: Side,
+    pub remaining: u32,
+    pub minimum: u32,
+    pub jitney: bool,
+    pub form: Form,
+}
+
+// What decides whether a Dark order may be met. `lit` is the best price of the lit orders that still rest against the
+// active order, 0 for none.
+#[derive(Clone, Copy)]
+pub struct DarkTerms<R> {
+    pub quote: Quote,
+    pub active: Active<R>,
+    pub lit: u32,
+}
+
+// What decides whether a lit order may be met.
+#[derive(Clone, Copy)]
+pub struct LitTerms<R> {
+    pub quote: Quote,
+    pub active: Active<R>,
+}
+
+// The price that a sweep last chose at in a table, and the need there; price 0 before the first choice.
+#[derive(Clone, Copy)]
+pub struct LastLevel {
+    pub price: u32,
+    pub need: u32,
+}
+
+// A resting order found in a queue: its place and its price.
+#[derive(Clone, Copy)]
+pub struct Found {
+    pub at: usize,
+    pub price: u32,
+}

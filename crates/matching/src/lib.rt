@@ -1,0 +1,4 @@
+// Who may meet whom, the choice among them, the sweep of an active order, and settling.
+pub mod active;
+pub mod choose;
+pub mod meets;
