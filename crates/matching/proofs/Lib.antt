@@ -1,1 +1,3 @@
 pub mod Backward
+pub mod Finding
+pub mod Going

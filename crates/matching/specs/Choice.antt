@@ -58,15 +58,16 @@ is-ahead FirstAhead = true
 is-ahead SecondAhead = false
 is-ahead Level = false
 
--- the need at a price: what remained when the sweep first chose there
-abbrev pub need-at : LastLevel → ℕ → ℕ → ℕ
-need-at n p remaining = cond (eqb (n .price) p) (n .need) remaining
+-- the need at a price: what remained when the sweep first chose there, and what remains now if it chose elsewhere last
+abbrev pub need-at : Option LastLevel → ℕ → ℕ → ℕ
+need-at None p remaining = remaining
+need-at (Some n) p remaining = cond (eqb (n .price) p) (n .need) remaining
 
-abbrev pub asking : {R : Type 0} → Active R → Kind → LastLevel → ℕ → ActiveView
+abbrev pub asking : {R : Type 0} → Active R → Kind → Option LastLevel → ℕ → ActiveView
 asking a kind n p = record { member = a .member; jitney = a .jitney; need = need-at n p (a .remaining); kind = kind }
 
 -- a better price beats; at one price, who is ahead by the priority
-abbrev pub beats : {X R : Type 0} → Active R → Kind → LastLevel → Ordering → (X → ℕ) → (X → RestingView) → X → X → Bool
+abbrev pub beats : {X R : Type 0} → Active R → Kind → Option LastLevel → Ordering → (X → ℕ) → (X → RestingView) → X → X → Bool
 beats a kind n order price view x y =
     better (a .side) (price x) (price y) || (eqb (price x) (price y) && is-ahead (order (asking a kind n (price x)) (view x) (view y)))
 

@@ -41,7 +41,7 @@ pub struct LitTerms<R> {
     pub active: Active<R>,
 }
 
-// The price that a sweep last chose at in a table, and the need there; price 0 before the first choice.
+// The price that a sweep last chose at in a table, and the need there.
 #[derive(Clone, Copy)]
 pub struct LastLevel {
     pub price: u32,
@@ -53,4 +53,29 @@ pub struct LastLevel {
 pub struct Found {
     pub at: usize,
     pub price: u32,
+}
+
+// How far a sweep has come: what is left of the active order, the trades of the day, and the level last chosen at in
+// each table.
+#[derive(Clone, Copy)]
+pub struct Progress<R> {
+    pub active: Active<R>,
+    pub trades: u32,
+    pub dark: Option<LastLevel>,
+    pub lit: Option<LastLevel>,
+}
+
+// Whom an active order meets next.
+#[derive(Clone, Copy)]
+pub enum Next {
+    Nobody,
+    Dark(Found),
+    Lit(Found),
+}
+
+// The priorities of the two tables.
+#[derive(Clone, Copy)]
+pub struct Priorities<D, L> {
+    pub dark: D,
+    pub lit: L,
 }

@@ -4,7 +4,7 @@ ghost use mathlib.Core.Bool.{Bool};
 ghost use Prim.Native.Nat.{ℕ};
 ghost use Rattle.market.specs.declared.codes.Kind.{Kind};
 ghost use Rattle.priority.specs.declared.standing.RestingView.{RestingView};
-ghost use Rattle.matching.specs.Choice.{asking, beats as beats-for, pick, Splits};
+ghost use Rattle.matching.specs.Choice.{need-at, asking, beats as beats-for, pick, Splits};
 ghost use Rattle.matching.specs.Meets.{may-meet-dark, may-meet-lit, price-of-dark, price-of-lit, view-of-dark, view-of-lit};
 use crate::active::Active;
 use crate::active::DarkTerms;
@@ -86,17 +86,28 @@ pub impl<R: Copy> Offer for LitOrder<R> as LitOffer {
     }
 }
 
-// What a priority is told of the active order, for orders priced `price`.
-fn ask<R: Copy>(a: &Active<R>, kind: Kind, last: &LastLevel, price: u32) -> ActiveView
-    ensures { λ r. ⌜ r ≡ asking (now (a .entry)) kind (now (last .entry)) price ⌝ }
+// What remained when the sweep first chose at this price.
+pub fn need_at(last: Option<LastLevel>, price: u32, remaining: u32) -> u32
+    ensures { λ r. ⌜ r ≡ need-at last price remaining ⌝ }
 {
-    let need = if last.price == price { last.need } else { a.remaining };
+    match last {
+        Some(level) if level.price == price => level.need,
+        Some(_) => remaining,
+        None => remaining,
+    }
+}
+
+// What a priority is told of the active order, for orders priced `price`.
+fn ask<R: Copy>(a: &Active<R>, kind: Kind, last: Option<LastLevel>, price: u32) -> ActiveView
+    ensures { λ r. ⌜ r ≡ asking (now (a .entry)) kind last price ⌝ }
+{
+    let need = need_at(last, price, a.remaining);
     ActiveView { member: a.member, jitney: a.jitney, need, kind }
 }
 
 // Whether `x` is to be met before `y`, which stands earlier in the queue.
-fn beats<R: Copy, T: Offer, P: Priority>(a: &Active<R>, kind: Kind, last: &LastLevel, p: &P, terms: &T::Terms, x: &T, y: &T) -> bool
-    ensures { λ r. ⌜ r ≡ beats-for (now (a .entry)) kind (now (last .entry)) (P·Priority .order (now (p .entry))) (T·Offer .costs (now (terms .entry))) (T·Offer .shown (now (terms .entry))) (now (x .entry)) (now (y .entry)) ⌝ }
+fn beats<R: Copy, T: Offer, P: Priority>(a: &Active<R>, kind: Kind, last: Option<LastLevel>, p: &P, terms: &T::Terms, x: &T, y: &T) -> bool
+    ensures { λ r. ⌜ r ≡ beats-for (now (a .entry)) kind last (P·Priority .order (now (p .entry))) (T·Offer .costs (now (terms .entry))) (T·Offer .shown (now (terms .entry))) (now (x .entry)) (now (y .entry)) ⌝ }
 {
     let px = x.price(terms);
     let py = y.price(terms);
@@ -111,8 +122,8 @@ fn beats<R: Copy, T: Offer, P: Priority>(a: &Active<R>, kind: Kind, last: &LastL
 }
 
 // The best of the orders that may be met, with its price.
-pub fn choose<R: Copy, T: Offer, P: Priority>(orders: &[T], terms: &T::Terms, a: &Active<R>, kind: Kind, last: &LastLevel, p: &P) -> Option<Found>
-    ensures { λ r. ⌜ Splits (T·Offer .costs (now (terms .entry))) (now (orders .entry)) r (pick (T·Offer .able (now (terms .entry))) (beats-for (now (a .entry)) kind (now (last .entry)) (P·Priority .order (now (p .entry))) (T·Offer .costs (now (terms .entry))) (T·Offer .shown (now (terms .entry)))) (now (orders .entry))) ⌝ }
+pub fn choose<R: Copy, T: Offer, P: Priority>(orders: &[T], terms: &T::Terms, a: &Active<R>, kind: Kind, last: Option<LastLevel>, p: &P) -> Option<Found>
+    ensures { λ r. ⌜ Splits (T·Offer .costs (now (terms .entry))) (now (orders .entry)) r (pick (T·Offer .able (now (terms .entry))) (beats-for (now (a .entry)) kind last (P·Priority .order (now (p .entry))) (T·Offer .costs (now (terms .entry))) (T·Offer .shown (now (terms .entry)))) (now (orders .entry))) ⌝ }
 {
     let mut best: Option<usize> = None;
     let mut i = orders.len();

@@ -2,3 +2,5 @@
 pub mod active;
 pub mod choose;
 pub mod meets;
+pub mod sweep;
+pub mod trade;

@@ -5,8 +5,8 @@ use Prim.Native.Nat.{ℕ, zero, suc, _+_, _<_, _≤_}
 use native.Mathlib.Omega.{arith}
 use native.Mathlib.Numerals.{add-one}
 use lib.ListN.{length, take, drop, set, getD}
-use Rattle.std.proofs.shelf.Lists.{append-assoc, append-nil, take-more-set, drop-set-lt, drop-more, drop-drop, take-take, drop-all, length-take, length-take-le, getD-take, set-split}
-use Rattle.queue.specs.Queues.{without, replaced}
+use Rattle.std.proofs.shelf.Lists.{take-append-le, drop-append-le, append-assoc, append-nil, take-more-set, drop-set-lt, drop-more, drop-drop, take-take, drop-all, length-take, length-take-le, getD-take, set-split}
+use Rattle.queue.specs.Queues.{without, to-end, replaced}
 
 take-set : {X : Type 0} (n : ℕ) (xs : List X) (k : ℕ) (v : X) → take n (set xs k v) ≡ set (take n xs) k v
 take-set zero xs k v = refl
@@ -43,3 +43,12 @@ pub written : {X : Type 0} (n : ℕ) (xs : List X) (i : ℕ) (v : X) → i < n �
 written n xs i v lt le =
     let h : i < length (take n xs) = rw (length-take-le n xs le) lt in
     take-set n xs i v ∙ set-split (take n xs) i v h ∙ ap (λ k. take i (take n xs) ++ v ∷ drop k (take n xs)) (sym (add-one i))
+
+-- the one at i, as x, put behind the others
+pub replaced-to-end : {X : Type 0} (xs : List X) (i : ℕ) (x : X) → i < length xs → to-end i (replaced i x xs) ≡ take i xs ++ (drop (i + 1) xs ++ x ∷ [])
+replaced-to-end xs i x lt =
+    let l : length (take i xs) ≡ i = length-take-le i xs (omega arith) in
+    let front : take i (replaced i x xs) ≡ take i xs = take-append-le i (take i xs) (x ∷ drop (i + 1) xs) (omega arith) ∙ take-take i i xs (omega arith) in
+    let rest : drop i (replaced i x xs) ≡ x ∷ drop (i + 1) xs = drop-append-le i (take i xs) (x ∷ drop (i + 1) xs) (omega arith) ∙ ap (λ ys. ys ++ x ∷ drop (i + 1) xs) (drop-all i (take i xs) (omega arith)) in
+    let past : drop (i + 1) (replaced i x xs) ≡ drop (i + 1) xs = sym (drop-drop 1 i (replaced i x xs)) ∙ ap (drop 1) rest in
+    rw (front, past, rest) (append-assoc (take i xs) (drop (i + 1) xs) (x ∷ []))

@@ -23,6 +23,12 @@ pub record Same-places {X : Type 0} (p q : Queue X) : Type 0 where
   pub room : length (now (q .places)) ≡ length (now (p .places))
   pub lender : name (q .places) ≡ name (p .places)
 
+-- the second queue is the first with these behind it, on the same places, and later places as they were
+pub record Appended {X : Type 0} (p : Queue X) (xs : List X) (q : Queue X) : Type 0 where
+  pub list : queued q ≡ queued p ++ xs
+  pub spare : spare q ≡ drop (length xs) (spare p)
+  pub same : Same-places p q
+
 -- the one at i is gone, and the others keep their order
 abbrev pub without : {X : Type 0} → ℕ → List X → List X
 without i xs = take i xs ++ drop (i + 1) xs

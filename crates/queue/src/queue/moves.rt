@@ -1,10 +1,10 @@
 // What a queue can do.
 ghost use mathlib.Core.Path.{_≡_};
-ghost use mathlib.Core.List.{_++_, _∷_, []};
+ghost use mathlib.Core.List.{_∷_, []};
 ghost use Prim.Native.Nat.{ℕ, _+_, _<_, _≤_};
-ghost use lib.ListN.{length, take, drop, getD};
+ghost use lib.ListN.{length, getD};
 ghost use denote.Ref.{name};
-ghost use Rattle.queue.specs.Queues.{queued, spare, room, Same-places, without, to-end, replaced};
+ghost use Rattle.queue.specs.Queues.{queued, room, Same-places, Appended, without, to-end, replaced};
 use super::Queue;
 
 impl<'a, T: Copy> Queue<'a, T> {
@@ -45,10 +45,8 @@ impl<'a, T: Copy> Queue<'a, T> {
     // One more, last.
     pub fn append(&mut self, x: T)
         requires { ⌜ now self .len < room (now self) ⌝ }
-        ensures list { λ _. ⌜ queued (now (self .exit)) ≡ queued (now (self .entry)) ++ x ∷ [] ⌝ }
-        ensures spare { λ _. ⌜ spare (now (self .exit)) ≡ drop 1 (spare (now (self .entry))) ⌝ }
+        ensures appended { λ _. ⌜ Appended (now (self .entry)) (x ∷ []) (now (self .exit)) ⌝ }
         ensures len { λ _. ⌜ now (self .exit) .len ≡ now (self .entry) .len + 1 ⌝ }
-        ensures same { λ _. ⌜ Same-places (now (self .entry)) (now (self .exit)) ⌝ }
     {
         self.places[self.len] = x;
         self.len += 1;

@@ -12,14 +12,14 @@ use Rattle.matching.proofs.choose.choose.Needs as need
 pub loop-i-holds : need.loop-i-holds
 loop-i-holds g c =
     let able = g .T·Offer .able (c .args .terms .now) in
-    let wins = beats (c .args .a .now) (c .args .kind) (c .args .last .now) (g .P·Priority .order (c .args .p .now)) (g .T·Offer .costs (c .args .terms .now)) (g .T·Offer .shown (c .args .terms .now)) in
+    let wins = beats (c .args .a .now) (c .args .kind) (c .args .last) (g .P·Priority .order (c .args .p .now)) (g .T·Offer .costs (c .args .terms .now)) (g .T·Offer .shown (c .args .terms .now)) in
     let xs = c .args .orders .now in
     (ap (pick able wins) (drop-all (length xs) xs (omega arith)), omega arith)
 
 pub loop-i-again-in-Some : need.loop-i-again-in-Some
 loop-i-again-in-Some g c =
     let able = g .T·Offer .able (c .args .terms .now) in
-    let wins = beats (c .args .a .now) (c .args .kind) (c .args .last .now) (g .P·Priority .order (c .args .p .now)) (g .T·Offer .costs (c .args .terms .now)) (g .T·Offer .shown (c .args .terms .now)) in
+    let wins = beats (c .args .a .now) (c .args .kind) (c .args .last) (g .P·Priority .order (c .args .p .now)) (g .T·Offer .costs (c .args .terms .now)) (g .T·Offer .shown (c .args .terms .now)) in
     let xs = c .args .orders .now in
     let i = c .loop-i .i in
     let inv = c .loop-i .inv in
@@ -31,7 +31,7 @@ loop-i-again-in-Some g c =
 pub loop-i-again-in-Some-2 : need.loop-i-again-in-Some-2
 loop-i-again-in-Some-2 g c =
     let able = g .T·Offer .able (c .args .terms .now) in
-    let wins = beats (c .args .a .now) (c .args .kind) (c .args .last .now) (g .P·Priority .order (c .args .p .now)) (g .T·Offer .costs (c .args .terms .now)) (g .T·Offer .shown (c .args .terms .now)) in
+    let wins = beats (c .args .a .now) (c .args .kind) (c .args .last) (g .P·Priority .order (c .args .p .now)) (g .T·Offer .costs (c .args .terms .now)) (g .T·Offer .shown (c .args .terms .now)) in
     let xs = c .args .orders .now in
     let i = c .loop-i .i in
     let inv = c .loop-i .inv in
@@ -43,7 +43,7 @@ loop-i-again-in-Some-2 g c =
 pub loop-i-again-in-None : need.loop-i-again-in-None
 loop-i-again-in-None g c =
     let able = g .T·Offer .able (c .args .terms .now) in
-    let wins = beats (c .args .a .now) (c .args .kind) (c .args .last .now) (g .P·Priority .order (c .args .p .now)) (g .T·Offer .costs (c .args .terms .now)) (g .T·Offer .shown (c .args .terms .now)) in
+    let wins = beats (c .args .a .now) (c .args .kind) (c .args .last) (g .P·Priority .order (c .args .p .now)) (g .T·Offer .costs (c .args .terms .now)) (g .T·Offer .shown (c .args .terms .now)) in
     let xs = c .args .orders .now in
     let i = c .loop-i .i in
     let inv = c .loop-i .inv in
@@ -54,7 +54,7 @@ loop-i-again-in-None g c =
 pub loop-i-again : need.loop-i-again
 loop-i-again g c =
     let able = g .T·Offer .able (c .args .terms .now) in
-    let wins = beats (c .args .a .now) (c .args .kind) (c .args .last .now) (g .P·Priority .order (c .args .p .now)) (g .T·Offer .costs (c .args .terms .now)) (g .T·Offer .shown (c .args .terms .now)) in
+    let wins = beats (c .args .a .now) (c .args .kind) (c .args .last) (g .P·Priority .order (c .args .p .now)) (g .T·Offer .costs (c .args .terms .now)) (g .T·Offer .shown (c .args .terms .now)) in
     let xs = c .args .orders .now in
     let i = c .loop-i .i in
     let inv = c .loop-i .inv in
@@ -64,7 +64,7 @@ loop-i-again g c =
 pub returns-in-Some-best : need.returns-in-Some-best
 returns-in-Some-best g c =
     let able = g .T·Offer .able (c .args .terms .now) in
-    let wins = beats (c .args .a .now) (c .args .kind) (c .args .last .now) (g .P·Priority .order (c .args .p .now)) (g .T·Offer .costs (c .args .terms .now)) (g .T·Offer .shown (c .args .terms .now)) in
+    let wins = beats (c .args .a .now) (c .args .kind) (c .args .last) (g .P·Priority .order (c .args .p .now)) (g .T·Offer .costs (c .args .terms .now)) (g .T·Offer .shown (c .args .terms .now)) in
     let xs = c .args .orders .now in
     let at = c .in-Some-best .at in
     let z : c .loop-i .i ≡ 0 = omega arith in
