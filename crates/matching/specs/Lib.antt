@@ -1,3 +1,4 @@
 pub mod Choice
 pub mod Meets
+pub mod Settle
 pub mod Sweep

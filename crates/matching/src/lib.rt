@@ -2,5 +2,6 @@
 pub mod active;
 pub mod choose;
 pub mod meets;
+pub mod settle;
 pub mod sweep;
 pub mod trade;
