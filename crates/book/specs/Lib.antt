@@ -1,0 +1,4 @@
+pub mod Grounds
+pub mod Requests
+pub mod Sessions
+pub mod Steps

@@ -1,0 +1,4 @@
+// One book for one security and one day: the calls, what refuses them, and what they do.
+pub mod book;
+pub mod call;
+pub mod session;
