@@ -1,10 +1,13 @@
 -- The grounds of refusal: each a test of the call and the book, in the order in which they are checked.
+use mathlib.Core.Path.{_≡_}
 use mathlib.Core.Bool.{Bool, true, false, cond, not, _&&_, _||_}
 use mathlib.Core.List.{List, [], _∷_}
 use Prim.Native.Nat.{ℕ, _+_}
 use lib.Dec.{leb, ltb, eqb}
 use Rattle.std.specs.declared.option.Option.{Option}
 use Rattle.std.specs.declared.option.Option.the-variants.{Some, None}
+use Rattle.std.specs.declared.result.Result.{Result}
+use Rattle.std.specs.declared.result.Result.the-variants.{Ok, Err}
 use Rattle.market.specs.declared.codes.Side.{Side}
 use Rattle.market.specs.declared.codes.Side.the-variants.{Buy, Sell}
 use Rattle.market.specs.declared.ground.Ground.{Ground}
@@ -59,40 +62,49 @@ abbrev pub all-in : {X : Type 0} → (X → Bool) → List X → Bool
 all-in p [] = true
 all-in p (x ∷ xs) = p x && all-in p xs
 
--- an order of the member
-abbrev pub dark-of-member : {R : Type 0} → ℕ → DarkOrder R → Bool
-dark-of-member m d = eqb (d .member) m
-
-abbrev pub lit-of-member : {R : Type 0} → ℕ → LitOrder R → Bool
-lit-of-member m l = eqb (l .member) m
+-- an order of the member, whichever table it rests in
+abbrev pub of-member : {X : Type 0} → (X → ℕ) → ℕ → X → Bool
+of-member owner m x = eqb (owner x) m
 
 -- the member's order under this reference
-abbrev pub dark-named : {R : Type 0} → (R → ℕ) → ℕ → R → DarkOrder R → Bool
-dark-named number m r d = eqb (d .member) m && eqb (number (d .reference)) (number r)
+abbrev pub named : {X R : Type 0} → (R → ℕ) → (X → ℕ) → (X → R) → ℕ → R → X → Bool
+named number owner label m r x = eqb (owner x) m && eqb (number (label x)) (number r)
 
-abbrev pub lit-named : {R : Type 0} → (R → ℕ) → ℕ → R → LitOrder R → Bool
-lit-named number m r l = eqb (l .member) m && eqb (number (l .reference)) (number r)
+abbrev pub dark-owner : {R : Type 0} → DarkOrder R → ℕ
+dark-owner d = d .member
+
+abbrev pub dark-label : {R : Type 0} → DarkOrder R → R
+dark-label d = d .reference
+
+abbrev pub lit-owner : {R : Type 0} → LitOrder R → ℕ
+lit-owner l = l .member
+
+abbrev pub lit-label : {R : Type 0} → LitOrder R → R
+lit-label l = l .reference
 
 -- how many orders of the member rest under this reference, in both tables
 abbrev pub times-named : {R : Type 0} → (R → ℕ) → List (DarkOrder R) → List (LitOrder R) → ℕ → R → ℕ
-times-named number ds ls m r = count (dark-named number m r) ds + count (lit-named number m r) ls
+times-named number ds ls m r = count (named number dark-owner dark-label m r) ds + count (named number lit-owner lit-label m r) ls
 
--- the rule for resting orders, at most 16 of the member in its table, and its reference once in the two tables
+-- an order that may stand in its table: it obeys the rule for resting orders, it is one of at most 16 of its member
+-- there, and its reference stands once in the two tables
+abbrev pub fine : {X R : Type 0} → (R → ℕ) → (X → ℕ) → (X → R) → (X → Bool) → List X → List (DarkOrder R) → List (LitOrder R) → X → Bool
+fine number owner label sound own ds ls x =
+    sound x && (leb (count (of-member owner (owner x)) own) 16 && leb (times-named number ds ls (owner x) (label x)) 1)
+
 abbrev pub fine-dark : {R : Type 0} → (R → ℕ) → ℕ → List (DarkOrder R) → List (LitOrder R) → DarkOrder R → Bool
-fine-dark number lot ds ls d =
-    sound-dark number lot d && (leb (count (dark-of-member (d .member)) ds) 16 && leb (times-named number ds ls (d .member) (d .reference)) 1)
+fine-dark number lot ds ls = fine number dark-owner dark-label (sound-dark number lot) ds ds ls
 
 abbrev pub fine-lit : {R : Type 0} → (R → ℕ) → ℕ → List (DarkOrder R) → List (LitOrder R) → LitOrder R → Bool
-fine-lit number lot ds ls l =
-    sound-lit number lot l && (leb (count (lit-of-member (l .member)) ls) 16 && leb (times-named number ds ls (l .member) (l .reference)) 1)
+fine-lit number lot ds ls = fine number lit-owner lit-label (sound-lit number lot) ls ds ls
 
 -- what rests could rest
 unfoldable pub sound-tables : {R : Type 0} → (R → ℕ) → ℕ → List (DarkOrder R) → List (LitOrder R) → Bool
 sound-tables number lot ds ls = all-in (fine-dark number lot ds ls) ds && all-in (fine-lit number lot ds ls) ls
 
 -- ground 3
-abbrev pub memory-fails : {R : Type 0} → Facility R → Contents R → Memory → Bool
-memory-fails f c m = not (enough-memory m && sound-tables (f .number) (f .lot) (c .darks) (c .lits))
+abbrev pub memory-fails : {R : Type 0} → (R → ℕ) → ℕ → Contents R → Memory → Bool
+memory-fails number lot c m = not (enough-memory m && sound-tables number lot (c .darks) (c .lits))
 
 -- ground 4: 513 fills more might pass the trade number 1,000,000
 abbrev pub trades-fail : ℕ → Bool
@@ -179,9 +191,9 @@ if-read p (Some r) = p r
 -- ground 14
 abbrev pub full-fails : {R : Type 0} → Contents R → Call R → Bool
 full-fails c (call.Quote w) = false
-full-fails c (call.Dark e) = leb 16 (count (dark-of-member (e .member)) (c .darks))
+full-fails c (call.Dark e) = leb 16 (count (of-member dark-owner (e .member)) (c .darks))
 full-fails c (call.Sdl e) = false
-full-fails c (call.Lit e) = leb 16 (count (lit-of-member (e .member)) (c .lits))
+full-fails c (call.Lit e) = leb 16 (count (of-member lit-owner (e .member)) (c .lits))
 full-fails c call.Start = false
 
 pub record Check : Type 0 where
@@ -197,19 +209,27 @@ first-of [] = None
 first-of (c ∷ cs) = cond (c .fails) (Some (c .ground)) (first-of cs)
 
 -- what is checked of a call's fields once its codes are read
-abbrev pub field-checks : {R : Type 0} → Facility R → Contents R → Call R → List Check
-field-checks f c x =
-    on ground.Reference (reference-fails (f .number) c x) ∷ on ground.Quantity (quantity-fails (f .lot) x) ∷ on ground.Price (price-fails x)
-    ∷ on ground.Minimum (minimum-fails (f .lot) x) ∷ on ground.Crossing (if-read (crossing-fails (quote-in c)) (request-of x))
+abbrev pub field-checks : {R : Type 0} → (R → ℕ) → ℕ → Contents R → Call R → List Check
+field-checks number lot c x =
+    on ground.Reference (reference-fails number c x) ∷ on ground.Quantity (quantity-fails lot x) ∷ on ground.Price (price-fails x)
+    ∷ on ground.Minimum (minimum-fails lot x) ∷ on ground.Crossing (if-read (crossing-fails (quote-in c)) (request-of x))
     ∷ on ground.Full (full-fails c x) ∷ []
 
 -- all that is checked of a call, in order
-abbrev pub checks : {R : Type 0} → Facility R → State R → Memory → Call R → List Check
-checks f s m x =
-    on ground.Closed (is-closed (s .session)) ∷ on ground.Memory (memory-fails f (s .contents) m) ∷ on ground.Trades (trades-fail (s .contents .trades))
+abbrev pub checks : {R : Type 0} → (R → ℕ) → ℕ → State R → Memory → Call R → List Check
+checks number lot s m x =
+    on ground.Closed (is-closed (s .session)) ∷ on ground.Memory (memory-fails number lot (s .contents) m) ∷ on ground.Trades (trades-fail (s .contents .trades))
     ∷ on ground.Member (member-fails x) ∷ on ground.Code (code-fails x) ∷ on ground.Session (session-fails (s .session) x)
-    ∷ field-checks f (s .contents) x
+    ∷ field-checks number lot (s .contents) x
 
 -- the ground on which a call is refused, if any
-unfoldable pub ground-of : {R : Type 0} → Facility R → State R → Memory → Call R → Option Ground
-ground-of f s m x = first-of (checks f s m x)
+unfoldable pub ground-under : {R : Type 0} → (R → ℕ) → ℕ → State R → Memory → Call R → Option Ground
+ground-under number lot s m x = first-of (checks number lot s m x)
+
+abbrev pub ground-of : {R : Type 0} → Facility R → State R → Memory → Call R → Option Ground
+ground-of f s m x = ground-under (f .number) (f .lot) s m x
+
+-- what code answers: the ground, or the request where there is none
+abbrev pub Admits : {R : Type 0} → Option Ground → Option (Request R) → Result (Request R) Ground → Type 0
+Admits g q (Ok r) = (g ≡ None) × (q ≡ Some r)
+Admits g q (Err e) = g ≡ Some e

@@ -2,3 +2,4 @@
 pub mod book;
 pub mod call;
 pub mod session;
+pub mod tables;
