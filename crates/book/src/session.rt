@@ -2,7 +2,7 @@
 ghost use mathlib.Core.Path.{_≡_};
 ghost use Rattle.std.specs.declared.option.Option.the-variants.{Some, None};
 ghost use Rattle.std.specs.declared.result.Result.the-variants.{Ok, Err};
-ghost use Rattle.book.specs.Sessions.{session-ground, session-then, is-continuous as continuous};
+ghost use Rattle.book.specs.Sessions.{session-ground, session-then, is-closed as closed, is-continuous as continuous};
 use crate::call::Call;
 use market::ground::Ground;
 
@@ -29,6 +29,15 @@ impl Session {
             (Session::PreOpen, Call::Quote(_) | Call::Dark(_) | Call::Lit(_)) => Ok(()),
             (Session::Continuous, Call::Start) => Err(Ground::Session),
             (Session::Continuous, Call::Quote(_) | Call::Dark(_) | Call::Sdl(_) | Call::Lit(_)) => Ok(()),
+        }
+    }
+
+    pub fn is_closed(self) -> bool
+        ensures { λ r. ⌜ r ≡ closed self ⌝ }
+    {
+        match self {
+            Session::Closed => true,
+            Session::PreOpen | Session::Continuous => false,
         }
     }
 
