@@ -1,0 +1,4 @@
+pub mod Called
+pub mod Cases
+pub mod Played
+pub mod Settled
