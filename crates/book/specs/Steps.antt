@@ -2,7 +2,7 @@
 use mathlib.Core.Path.{_≡_}
 use mathlib.Core.Bool.{Bool, true, false, cond}
 use mathlib.Core.List.{List, [], _∷_, _++_}
-use Prim.Native.Nat.{ℕ, _-_}
+use Prim.Native.Nat.{ℕ, _-_, _<_}
 use lib.Dec.{eqb}
 use lib.ListN.{length, take, drop}
 use Rattle.std.specs.declared.option.Option.{Option}
@@ -109,6 +109,14 @@ pub record Called {R : Type 0} (f : Facility R) (s : State R) (m : Memory) (x : 
   pub only : (a′ : Answer) (fs : List (Fill R)) (t′ : State R) → Step f s m x a′ fs t′ → (a′ ≡ a) × (fs ≡ fills) × (t′ ≡ t)
   pub made : take (length fills) list ≡ fills
   pub past : drop (length fills) list ≡ drop (length fills) was
+
+-- a table with a place for the order that a request adds
+abbrev pub Has-place : {R : Type 0} → Request R → ℕ → ℕ → ℕ → ℕ → Type 0
+Has-place (request.Quote w) darks dark-places lits lit-places = Unit {0}
+Has-place (request.Dark d) darks dark-places lits lit-places = darks < dark-places
+Has-place (request.Sdl s) darks dark-places lits lit-places = Unit {0}
+Has-place (request.Lit l) darks dark-places lits lit-places = lits < lit-places
+Has-place request.Start darks dark-places lits lit-places = Unit {0}
 
 -- what code says of an action, its fills appended to the fill list
 pub record Acted {R : Type 0} (f : Facility R) (s : Session) (c : Contents R) (q : Request R) (was : Queue (Fill R)) (traded gone : ℕ) (e : Contents R) (list : Queue (Fill R)) : Type 0 where
