@@ -10,6 +10,8 @@ use Rattle.std.specs.declared.option.Option.the-variants.{Some, None}
 use Rattle.std.specs.declared.result.Result.{Result}
 use Rattle.std.specs.declared.result.Result.the-variants.{Ok, Err}
 use Rattle.market.specs.declared.ground.Ground.{Ground}
+use Rattle.market.specs.declared.ground.Ground.the-variants as ground
+use Rattle.market.specs.Lots.{valid-lot}
 use Rattle.market.specs.declared.orders.DarkOrder.{DarkOrder}
 use Rattle.market.specs.declared.orders.LitOrder.{LitOrder}
 use Rattle.market.specs.declared.orders.Fill.{Fill}
@@ -20,10 +22,12 @@ use Rattle.market.specs.Sizes.{size-class}
 use Rattle.queue.specs.declared.queue.Queue.{Queue}
 use Rattle.queue.specs.Queues.{Appended}
 use Rattle.matching.specs.declared.active.Active.{Active}
+use Rattle.matching.specs.declared.active.Priorities.{Priorities}
 use Rattle.matching.specs.declared.active.Form.the-variants as form
 use Rattle.matching.specs.Sweep.{Run, Swept}
 use Rattle.matching.specs.Settle.{Contents, quote-in, active-dark, start-of, after-sweep, Settles}
 use Rattle.book.specs.declared.session.Session.{Session}
+use Rattle.book.specs.declared.session.Session.the-variants.{PreOpen}
 use Rattle.book.specs.declared.call.Call.{Call}
 use Rattle.book.specs.declared.call.SdlOrder.{SdlOrder}
 use Rattle.book.specs.declared.call.Request.{Request}
@@ -110,6 +114,29 @@ pub record Called {R : Type 0} (f : Facility R) (s : State R) (m : Memory) (x : 
   pub made : take (length fills) list ≡ fills
   pub past : drop (length fills) list ≡ drop (length fills) was
 
+-- a call on a book that is lent these tables and this list: the whole call is as above; lot and priorities are for the
+-- day; and a refused call leaves the book, both tables and the list as they were, every place
+pub record Served {R D L : Type 0} (f : Facility R) (x : Call R) (b : Book D L) (dark : List (DarkOrder R)) (lit : List (LitOrder R)) (fills : List (Fill R))
+    (a : Answer) (b′ : Book D L) (dark′ : List (DarkOrder R)) (lit′ : List (LitOrder R)) (fills′ : List (Fill R)) : Type 0 where
+  pub called : Called f (state-of b dark lit) (memory-of dark lit fills) x fills a (state-of b′ dark′ lit′) fills′
+  pub lot : b′ .core .lot ≡ b .core .lot
+  pub priorities : b′ .priorities ≡ b .priorities
+  pub unchanged : (g : Ground) → a ≡ Err g → (b′ ≡ b) × (dark′ ≡ dark) × (lit′ ≡ lit) × (fills′ ≡ fills)
+
+-- a new book: Pre-Open, no quote, no trades, and nothing rests
+pub record New {D L : Type 0} (lot : ℕ) (p : Priorities D L) (b : Book D L) : Type 0 where
+  pub listed : valid-lot lot ≡ true
+  pub session : b .session ≡ PreOpen
+  pub core : b .core ≡ record { lot = lot; away = record { bid = 0; offer = 0 }; trades = 0 }
+  pub priorities : b .priorities ≡ p
+  pub darks : b .darks ≡ 0
+  pub lits : b .lits ≡ 0
+
+-- a book is made at a listed lot, and refused at any other
+abbrev pub Made : {D L : Type 0} → ℕ → Priorities D L → Result (Book D L) Ground → Type 0
+Made lot p (Ok b) = New lot p b
+Made lot p (Err g) = (valid-lot lot ≡ false) × (g ≡ ground.Lot)
+
 -- a table with a place for the order that a request adds
 abbrev pub Has-place : {R : Type 0} → Request R → ℕ → ℕ → ℕ → ℕ → Type 0
 Has-place (request.Quote w) darks dark-places lits lit-places = Unit {0}
@@ -128,3 +155,23 @@ pub record Settled-in {R : Type 0} (f : Facility R) (s : Session) (c : Contents 
   pub fills : List (Fill R)
   pub made : Appended was fills list
   pub settling : Settling f s c fills e
+
+-- what code says of an action and the settling after it
+pub record Worked {R : Type 0} (f : Facility R) (s after : Session) (c : Contents R) (q : Request R) (was : Queue (Fill R)) (traded gone : ℕ) (e : Contents R) (list : Queue (Fill R)) : Type 0 where
+  pub mid : Contents R
+  pub first : List (Fill R)
+  pub second : List (Fill R)
+  pub made : Appended was (first ++ second) list
+  pub acts : Acts f s c q first traded gone mid
+  pub settling : Settling f after mid second e
+
+-- the same, over the fill list as it was lent, and with the fills counted
+pub record Ran {R : Type 0} (f : Facility R) (s after : Session) (c : Contents R) (q : Request R) (was : List (Fill R)) (n traded gone : ℕ) (e : Contents R) (list : List (Fill R)) : Type 0 where
+  pub mid : Contents R
+  pub first : List (Fill R)
+  pub second : List (Fill R)
+  pub acts : Acts f s c q first traded gone mid
+  pub settling : Settling f after mid second e
+  pub count : n ≡ length (first ++ second)
+  pub made : take (length (first ++ second)) list ≡ first ++ second
+  pub past : drop (length (first ++ second)) list ≡ drop (length (first ++ second)) was

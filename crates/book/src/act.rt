@@ -51,6 +51,7 @@ fn enter<R: Reference, D: Priority, L: Priority>(p: &Priorities<D, L>, session: 
     ensures lot { λ _. ⌜ now (core .exit) .lot ≡ now (core .entry) .lot ⌝ }
     ensures darks { λ _. ⌜ Same-places (now (darks .entry)) (now (darks .exit)) ⌝ }
     ensures lits { λ _. ⌜ Same-places (now (lits .entry)) (now (lits .exit)) ⌝ }
+    ensures fills { λ _. ⌜ Same-places (now (fills .entry)) (now (fills .exit)) ⌝ }
 {
     if !session.is_continuous() {
         darks.append(*d);
@@ -72,6 +73,7 @@ fn seek<R: Reference, D: Priority, L: Priority>(p: &Priorities<D, L>, core: &mut
     ensures lot { λ _. ⌜ now (core .exit) .lot ≡ now (core .entry) .lot ⌝ }
     ensures darks { λ _. ⌜ Same-places (now (darks .entry)) (now (darks .exit)) ⌝ }
     ensures lits { λ _. ⌜ Same-places (now (lits .entry)) (now (lits .exit)) ⌝ }
+    ensures fills { λ _. ⌜ Same-places (now (fills .entry)) (now (fills .exit)) ⌝ }
 {
     let quote = Quote::of(core.away, lits.orders());
     let mut g = Progress { active: activate_sdl(core.lot, &quote, o), trades: core.trades, dark: None, lit: None };
@@ -91,6 +93,7 @@ pub fn act<R: Reference, D: Priority, L: Priority>(p: &Priorities<D, L>, session
     ensures lot { λ _. ⌜ now (core .exit) .lot ≡ now (core .entry) .lot ⌝ }
     ensures darks { λ _. ⌜ Same-places (now (darks .entry)) (now (darks .exit)) ⌝ }
     ensures lits { λ _. ⌜ Same-places (now (lits .entry)) (now (lits .exit)) ⌝ }
+    ensures fills { λ _. ⌜ Same-places (now (fills .entry)) (now (fills .exit)) ⌝ }
 {
     match request {
         Request::Quote(away) => {
@@ -118,6 +121,7 @@ pub fn settle_in<R: Reference, D: Priority, L: Priority>(p: &Priorities<D, L>, s
     ensures lot { λ _. ⌜ now (core .exit) .lot ≡ now (core .entry) .lot ⌝ }
     ensures darks { λ _. ⌜ Same-places (now (darks .entry)) (now (darks .exit)) ⌝ }
     ensures lits { λ _. ⌜ Same-places (now (lits .entry)) (now (lits .exit)) ⌝ }
+    ensures fills { λ _. ⌜ Same-places (now (fills .entry)) (now (fills .exit)) ⌝ }
 {
     if !session.is_continuous() {
         return;

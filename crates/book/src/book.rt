@@ -27,3 +27,6 @@ pub struct Book<D, L> {
     ghost few: { darks ≤ 256 },
     ghost fewer: { lits ≤ 256 },
 }
+
+pub mod calls;
+pub mod questions;

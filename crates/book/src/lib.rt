@@ -4,5 +4,6 @@ pub mod admit;
 pub mod book;
 pub mod call;
 pub mod read;
+pub mod serve;
 pub mod session;
 pub mod tables;

@@ -116,6 +116,27 @@ module _ {R : Type 0} {o : Orderings} {q : Quote} {w : Away} {trades : ℕ} {d :
   pub swept-dark-trades : c .trades ≡ trades + length (s .swept .fills)
   swept-dark-trades = ap (λ (e : Contents R). e .trades) (s .contents) ∙ swept-trades (s .swept .swept)
 
+-- settling, too, spends an order with each fill
+module _ {R : Type 0} {o : Orderings} where
+  pub settles-count : {c e : Contents R} {fs : List (Fill R)} → Settles o c fs e → length fs + length (e .darks) + length (e .lits) ≤ length (c .darks) + length (c .lits)
+  unfolding first-to-trade
+  settles-count (settled e) = omega arith
+  settles-count (sweeps {c} {r = r} {fs = fs} {gs = gs} b d a e w t) =
+      let i = settles-count t in
+      let j = swept-count w in
+      let k = r .progress .active in
+      let p = picked-able (can-trade (quote-in c) (c .lits) (c .darks)) (λ x y. false) (c .darks) b d a e .1 in
+      let u = ap length p ∙ length-append b (d ∷ a) in
+      let v = length-append b a in
+      let x = length-append (r .darks) (dark-left (dark-kept d k)) in
+      let z = left-length (k .remaining) (dark-kept d k) in
+      let n = length-append fs gs in
+      omega arith
+
+  pub settles-trades : {c e : Contents R} {fs : List (Fill R)} → Settles o c fs e → e .trades ≡ c .trades + length fs
+  settles-trades (settled e) = omega arith
+  settles-trades (sweeps {fs = fs} {gs = gs} b d a e w t) = let i = settles-trades t in let j = swept-trades w in let n = length-append fs gs in omega arith
+
 -- a round of settling, as code goes through it: the first order that may trade is found, taken out, and sweeps
 module _ {R : Type 0} (o : Orderings) (c : Contents R) (at : ℕ) (d : DarkOrder R) (remaining trades : ℕ) (ds : List (DarkOrder R)) (ls : List (LitOrder R))
     (list list′ : Queue (Fill R)) where

@@ -24,7 +24,7 @@ returns-in-Quote g c =
         { fills = []
         ; made = appended-none _
         ; acts = subst (λ (r : Request (g .R .Denot)). Acts f (c .args .session) k r [] 0 0 e) (sym (c .in-Quote .is)) quotes }
-    ; lot = refl; darks = same-self _; lits = same-self _ }
+    ; lot = refl; darks = same-self _; lits = same-self _; fills = same-self _ }
 
 pub returns-in-Lit : need.returns-in-Lit
 returns-in-Lit g c =
@@ -42,7 +42,7 @@ returns-in-Lit g c =
             (λ (r : Request (g .R .Denot)) (ls : List (LitOrder (g .R .Denot))).
               Acts f (c .args .session) k r [] 0 0 (record { away = k .away; trades = k .trades; darks = k .darks; lits = ls }))
             (sym (c .in-Lit .is)) (sym (c .append .ensures .appended .list)) posts }
-    ; lot = refl; darks = same-self _; lits = c .append .ensures .appended .same }
+    ; lot = refl; darks = same-self _; lits = c .append .ensures .appended .same; fills = same-self _ }
 
 pub returns-in-Start : need.returns-in-Start
 returns-in-Start g c =
@@ -55,4 +55,4 @@ returns-in-Start g c =
         { fills = []
         ; made = appended-none _
         ; acts = subst (λ (r : Request (g .R .Denot)). Acts f (c .args .session) k r [] 0 0 k) (sym (c .in-Start .is)) starts }
-    ; lot = refl; darks = same-self _; lits = same-self _ }
+    ; lot = refl; darks = same-self _; lits = same-self _; fills = same-self _ }

@@ -29,7 +29,7 @@ returns-then-not-is-continuous g c =
         ; acts =
             subst (λ (ds : List (DarkOrder (g .R .Denot))). Acts f (c .args .session) k (Dark d) [] 0 0 (record { away = k .away; trades = k .trades; darks = ds; lits = k .lits }))
             (sym (c .append .ensures .appended .list)) (joins (sym (c .if-not-is-continuous .ensures tt))) }
-    ; lot = refl; darks = c .append .ensures .appended .same; lits = same-self _ }
+    ; lot = refl; darks = c .append .ensures .appended .same; lits = same-self _; fills = same-self _ }
 
 pub sub-result : need.sub-result
 sub-result g c =
@@ -59,4 +59,4 @@ returns g c =
         ; acts =
             subst₂ (λ (n : ℕ) (x : Contents (g .R .Denot)). Acts f (c .args .session) k (Dark d) (w .swept .fills) n 0 x)
             (ap (λ n. d .remaining - n) (sym (w .left))) (sym (w .contents)) (enters (sym (c .if-not-is-continuous .ensures tt)) (w .swept .swept)) }
-    ; lot = refl; darks = t .ensures .darks; lits = t .ensures .lits }
+    ; lot = refl; darks = t .ensures .darks; lits = t .ensures .lits; fills = w .swept .made .same }

@@ -34,4 +34,4 @@ returns g c =
       is (c .activate-sdl .ensures ∙ ap (λ q. active-sdl (f .lot) q x) is) (t .ensures .sweeps) in
     record
     { acted = λ s. record { fills = w .fills; made = w .made; acts = seeks (w .swept) }
-    ; lot = refl; darks = t .ensures .darks; lits = t .ensures .lits }
+    ; lot = refl; darks = t .ensures .darks; lits = t .ensures .lits; fills = w .made .same }
