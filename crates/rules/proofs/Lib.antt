@@ -1,4 +1,13 @@
+pub mod Beats
+pub mod Best
 pub mod Called
 pub mod Cases
+pub mod Choosing
+pub mod Levels
+pub mod Nearest
+pub mod Noting
+pub mod Picked
 pub mod Played
+pub mod Prices
+pub mod Reach
 pub mod Settled

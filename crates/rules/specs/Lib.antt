@@ -1,2 +1,4 @@
 pub mod Cases
+pub mod Choices
+pub mod Needs
 pub mod Play
