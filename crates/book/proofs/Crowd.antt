@@ -72,9 +72,10 @@ module _ {X : Type 0} (owner : X → ℕ) where
         let i = bound up m₀ pos less n in
         let i₀ = i .0 in
         let i₁ = i .1 in
-        let u = up (suc n) in
-        ( (λ le. ⊎-elim (λ q. let k : count (of-member owner (suc n)) xs ≤ 15 = rw q at less in omega arith) (λ q. let k = i₀ (omega arith) in omega arith) (cases-eq m₀ (suc n)))
-        , omega arith )
+        let u = up (suc n) in (
+          (λ le. ⊎-elim (λ q. let k : count (of-member owner (suc n)) xs ≤ 15 = rw q at less in omega arith) (λ q. let k = i₀ (omega arith) in omega arith) (cases-eq m₀ (suc n))),
+          omega arith,
+        )
 
     pub has-place : all-in fine xs ≡ true → (m₀ : ℕ) → valid-member m₀ ≡ true → leb 16 (count (of-member owner m₀) xs) ≡ false → length xs < 256
     has-place e m₀ v f =

@@ -41,14 +41,14 @@ module _ {R : Type 0} (f : Facility R) (s : State R) (m : Memory) (x : Call R) w
       let fs = r .first ++ r .second in
       called was list (Ok (n, traded, gone)) (record { session = after; contents = e }) fs
       (subst₂ (λ (n : ℕ) (y : Session). Step f s m x (Ok (n, traded, gone)) fs (record { session = y; contents = e })) (sym (r .count)) (sym moved)
-       (accepted none reads (r .acts) (subst (λ (y : Session). Settling f y (r .mid) (r .second) e) moved (r .settling))))
+      (accepted none reads (r .acts) (subst (λ (y : Session). Settling f y (r .mid) (r .second) e) moved (r .settling))))
       (r .made) (r .past)
 
 -- from queues on the lent memory to the memory as the host gets it back, and the counts of what is left
 module _ {R : Type 0} (f : Facility R) (s after : Session) (q : Request R) (w : Away) (t : ℕ) (traded gone : ℕ) where
   pub ran : (was : List (Fill R)) (ds : List (DarkOrder R)) (ls : List (LitOrder R)) (empty made : Queue (Fill R)) (dark₀ darks : Queue (DarkOrder R)) (lit₀ lits : Queue (LitOrder R)) (w′ : Away) (t′ : ℕ) →
       Worked f s after (record { away = w; trades = t; darks = queued dark₀; lits = queued lit₀ }) q empty traded gone
-        (record { away = w′; trades = t′; darks = queued darks; lits = queued lits }) made →
+      (record { away = w′; trades = t′; darks = queued darks; lits = queued lits }) made →
       now (empty .places) ≡ was → empty .len ≡ 0 → queued dark₀ ≡ ds → queued lit₀ ≡ ls →
       (n nd nl : ℕ) (list : List (Fill R)) (dark : List (DarkOrder R)) (lit : List (LitOrder R)) → n ≡ made .len → nd ≡ darks .len → nl ≡ lits .len →
       list ≡ now (made .places) → dark ≡ now (darks .places) → lit ≡ now (lits .places) →
@@ -58,16 +58,17 @@ module _ {R : Type 0} (f : Facility R) (s after : Session) (q : Request R) (w : 
       let long : made .len ≡ length fs = appended-length fs (k .made) ∙ ap (λ i. i + length fs) zero ∙ (omega arith) in
       let front : take (made .len) (now (made .places)) ≡ fs = k .made .list ∙ ap (λ i. take i (now (empty .places)) ++ fs) zero in
       let rest : drop (made .len) (now (made .places)) ≡ drop (length fs) was =
-        k .made .spare ∙ ap (drop (length fs)) (ap (λ i. drop i (now (empty .places))) zero ∙ places) in
-      record
-      { mid = k .mid
-      ; first = k .first
-      ; second = k .second
-      ; acts =
-          subst₂ (λ (xs : List (DarkOrder R)) (ys : List (LitOrder R)). Acts f s (record { away = w; trades = t; darks = xs; lits = ys }) q (k .first) traded gone (k .mid)) de le (k .acts)
-      ; settling =
-          subst₂ (λ (xs : List (DarkOrder R)) (ys : List (LitOrder R)). Settling f after (k .mid) (k .second) (record { away = w′; trades = t′; darks = xs; lits = ys }))
-          (sym (ap₂ take nde dback)) (sym (ap₂ take nle lback)) (k .settling)
-      ; count = ne ∙ long
-      ; made = ap₂ take (sym long) back ∙ front
-      ; past = ap₂ drop (sym long) back ∙ rest }
+      k .made .spare ∙ ap (drop (length fs)) (ap (λ i. drop i (now (empty .places))) zero ∙ places) in
+      record {
+        mid = k .mid;
+        first = k .first;
+        second = k .second;
+        acts =
+            subst₂ (λ (xs : List (DarkOrder R)) (ys : List (LitOrder R)). Acts f s (record { away = w; trades = t; darks = xs; lits = ys }) q (k .first) traded gone (k .mid)) de le (k .acts);
+        settling =
+            subst₂ (λ (xs : List (DarkOrder R)) (ys : List (LitOrder R)). Settling f after (k .mid) (k .second) (record { away = w′; trades = t′; darks = xs; lits = ys }))
+            (sym (ap₂ take nde dback)) (sym (ap₂ take nle lback)) (k .settling);
+        count = ne ∙ long;
+        made = ap₂ take (sym long) back ∙ front;
+        past = ap₂ drop (sym long) back ∙ rest;
+      }

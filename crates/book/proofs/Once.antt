@@ -30,9 +30,12 @@ module _ {R : Type 0} (f : Facility R) where
       let i = swept-once (f .orderings) w v in
       (i .0, ap (λ (r : Run R). d .remaining - r .progress .active .remaining) (i .1), refl, ap (after-sweep (c .away) d) (i .1))
   acts-once {c} (seeks {o} w) (seeks v) =
-      let i = swept-once (f .orderings) w v in
-      ( i .0, ap (λ (r : Run R). o .quantity - r .progress .active .remaining) (i .1), ap (λ (r : Run R). r .progress .active .remaining) (i .1)
-      , ap (after-seek (c .away)) (i .1) )
+      let i = swept-once (f .orderings) w v in (
+        i .0,
+        ap (λ (r : Run R). o .quantity - r .progress .active .remaining) (i .1),
+        ap (λ (r : Run R). r .progress .active .remaining) (i .1),
+        ap (after-seek (c .away)) (i .1),
+      )
   acts-once posts posts = (refl, refl, refl, refl)
   acts-once starts starts = (refl, refl, refl, refl)
 
@@ -53,6 +56,8 @@ module _ {R : Type 0} (f : Facility R) where
       let j = settling-once w (subst (λ (z : Contents R). Settling f (session-then (s .session) x) z gs′ e′) (sym (i .3)) w′) in
       let all : fs ++ gs ≡ fs′ ++ gs′ = ap₂ (λ l l′. l ++ l′) (i .0) (j .0) in
       let y : n ≡ n′ = i .1 in
-      let z : k ≡ k′ = i .2 in
-      ( (λ t. Ok (length (all t), y t, z t)), all
-      , ap (λ (v : Contents R). record { session = session-then (s .session) x; contents = v }) (j .1) )
+      let z : k ≡ k′ = i .2 in (
+        (λ t. Ok (length (all t), y t, z t)),
+        all,
+        ap (λ (v : Contents R). record { session = session-then (s .session) x; contents = v }) (j .1),
+      )

@@ -77,8 +77,8 @@ module _ {R : Type 0} (number : R → ℕ) (lot : ℕ) (ds : List (DarkOrder R))
       has-place dark-owner ds (fine-dark number lot ds ls)
       (λ d e. dark-member number lot d (and-parts (sound-dark number lot d) _ e .0))
       (λ d e.
-        leb-true (count (of-member dark-owner (d .member)) ds) 16
-        (and-parts (leb (count (of-member dark-owner (d .member)) ds) 16) _ (and-parts (sound-dark number lot d) _ e .1) .0))
+      leb-true (count (of-member dark-owner (d .member)) ds) 16
+      (and-parts (leb (count (of-member dark-owner (d .member)) ds) 16) _ (and-parts (sound-dark number lot d) _ e .1) .0))
       (and-parts (all-in (fine-dark number lot ds ls) ds) _ sound .0) m valid few
 
   lit-place : leb 16 (count (of-member lit-owner m) ls) ≡ false → length ls < 256
@@ -87,8 +87,8 @@ module _ {R : Type 0} (number : R → ℕ) (lot : ℕ) (ds : List (DarkOrder R))
       has-place lit-owner ls (fine-lit number lot ds ls)
       (λ l e. lit-member number lot l (and-parts (sound-lit number lot l) _ e .0))
       (λ l e.
-        leb-true (count (of-member lit-owner (l .member)) ls) 16
-        (and-parts (leb (count (of-member lit-owner (l .member)) ls) 16) _ (and-parts (sound-lit number lot l) _ e .1) .0))
+      leb-true (count (of-member lit-owner (l .member)) ls) 16
+      (and-parts (leb (count (of-member lit-owner (l .member)) ls) 16) _ (and-parts (sound-lit number lot l) _ e .1) .0))
       (and-parts (all-in (fine-dark number lot ds ls) ds) (all-in (fine-lit number lot ds ls) ls) sound .1) m valid few
 
 -- which request a call is read as
@@ -129,10 +129,11 @@ module _ {R : Type 0} (number : R → ℕ) (lot : ℕ) (s : State R) (m : Memory
   passed x q e r =
       let a = all-pass (checks number lot s m x) e in
       let good = memory-good m (sound-tables number lot (s .contents .darks) (s .contents .lits)) (a .1 .0) in
-      record
-      { memory = good .0
-      ; trades = ltb-false 999487 (s .contents .trades) (a .1 .1 .0)
-      ; place = placed x q r (good .1) (a .1 .1 .1 .0) (a .1 .1 .1 .1 .1 .1 .1 .1 .1 .1 .1 .0) }
+      record {
+        memory = good .0;
+        trades = ltb-false 999487 (s .contents .trades) (a .1 .1 .0);
+        place = placed x q r (good .1) (a .1 .1 .1 .0) (a .1 .1 .1 .1 .1 .1 .1 .1 .1 .1 .1 .0);
+      }
 
 -- lots are neither 0 nor large
 pub lot-bounds : (n : ℕ) → valid-lot n ≡ true → (0 < n) × (n ≤ 1000)

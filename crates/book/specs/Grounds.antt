@@ -20,7 +20,9 @@ use Rattle.market.specs.Lots.{valid-quantity, valid-minimum}
 use Rattle.market.specs.Orders.{valid-member, sound-dark, sound-lit}
 use Rattle.market.specs.Prices.{valid-price, price-or-none, cap-or-none}
 use Rattle.matching.specs.Settle.{Contents, quote-in}
-use Rattle.matching.specs.Sweep.{Orderings}
+use Rattle.matching.specs.declared.active.Priorities.{Priorities}
+use Rattle.matching.specs.Choice.{Ordering}
+use Rattle.matching.specs.Sweep.{Orderings, orderings-of}
 use Rattle.book.specs.declared.session.Session.{Session}
 use Rattle.book.specs.declared.call.Call.{Call}
 use Rattle.book.specs.declared.call.Call.the-variants as call
@@ -34,6 +36,10 @@ pub record Facility (R : Type 0) : Type 0 where
   pub lot : ℕ
   pub orderings : Orderings
   pub number : R → ℕ
+
+-- a facility with these priorities
+abbrev pub facility-of : {R D L : Type 0} → (R → ℕ) → (D → Ordering) → (L → Ordering) → Priorities D L → ℕ → Facility R
+facility-of number dark lit p lot = record { lot = lot; orderings = orderings-of dark lit p; number = number }
 
 -- a book: its session, and its contents
 pub record State (R : Type 0) : Type 0 where

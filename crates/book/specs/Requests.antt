@@ -20,9 +20,18 @@ use Rattle.book.specs.declared.call.Request.the-variants as request
 
 abbrev pub dark-with : {R : Type 0} → DarkEntry R → Option Side → Option Peg → Option Contra → Option Bool → Option (DarkOrder R)
 dark-with e (Some s) (Some p) (Some c) (Some j) =
-    Some (record
-    { member = e .member; reference = e .reference; side = s; remaining = e .quantity; peg = p; cap = e .cap; contra = c; minimum = e .minimum
-    ; jitney = j; key = e .key })
+    Some (record {
+      member = e .member;
+      reference = e .reference;
+      side = s;
+      remaining = e .quantity;
+      peg = p;
+      cap = e .cap;
+      contra = c;
+      minimum = e .minimum;
+      jitney = j;
+      key = e .key;
+    })
 dark-with e None p c j = None
 dark-with e (Some s) None c j = None
 dark-with e (Some s) (Some p) None j = None

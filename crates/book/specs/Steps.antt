@@ -25,7 +25,7 @@ use Rattle.matching.specs.declared.active.Active.{Active}
 use Rattle.matching.specs.declared.active.Priorities.{Priorities}
 use Rattle.matching.specs.declared.active.Form.the-variants as form
 use Rattle.matching.specs.Sweep.{Run, Swept}
-use Rattle.matching.specs.Settle.{Contents, quote-in, active-dark, start-of, after-sweep, Settles}
+use Rattle.matching.specs.Settle.{Contents, contents-of, quote-in, active-dark, start-of, after-sweep, Settles}
 use Rattle.book.specs.declared.session.Session.{Session}
 use Rattle.book.specs.declared.session.Session.the-variants.{PreOpen}
 use Rattle.book.specs.declared.call.Call.{Call}
@@ -33,6 +33,7 @@ use Rattle.book.specs.declared.call.SdlOrder.{SdlOrder}
 use Rattle.book.specs.declared.call.Request.{Request}
 use Rattle.book.specs.declared.call.Request.the-variants as request
 use Rattle.book.specs.declared.book.Book.{Book}
+use Rattle.book.specs.declared.book.Core.{Core}
 use Rattle.book.specs.Requests.{request-of}
 use Rattle.book.specs.Sessions.{session-then, is-continuous}
 use Rattle.book.specs.Grounds.{Facility, State, Memory, ground-of}
@@ -44,9 +45,15 @@ valued-at q s = cond (eqb (s .limit) 0) (opposing q (s .side)) (s .limit)
 -- an SDL order as it sweeps, its size class taken at the sweep's beginning
 abbrev pub active-sdl : {R : Type 0} → ℕ → Quote → SdlOrder R → Active R
 active-sdl lot q s =
-    record
-    { member = s .member; reference = s .reference; side = s .side; remaining = s .quantity; minimum = 0; jitney = s .jitney
-    ; form = form.Sdl (s .limit) (s .seek) (size-class lot (s .quantity) (valued-at q s)) }
+    record {
+      member = s .member;
+      reference = s .reference;
+      side = s .side;
+      remaining = s .quantity;
+      minimum = 0;
+      jitney = s .jitney;
+      form = form.Sdl (s .limit) (s .seek) (size-class lot (s .quantity) (valued-at q s));
+    }
 
 abbrev pub with-away : {R : Type 0} → Away → Contents R → Contents R
 with-away w c = record { away = w; trades = c .trades; darks = c .darks; lits = c .lits }
@@ -98,12 +105,21 @@ pub data Step {R : Type 0} (f : Facility R) (s : State R) (m : Memory) (x : Call
 -- a book with these tables, of which its first places count
 abbrev pub state-of : {R D L : Type 0} → Book D L → List (DarkOrder R) → List (LitOrder R) → State R
 state-of b dark lit =
-    record
-    { session = b .session
-    ; contents = record { away = b .core .away; trades = b .core .trades; darks = take (b .darks) dark; lits = take (b .lits) lit } }
+    record {
+      session = b .session;
+      contents = record { away = b .core .away; trades = b .core .trades; darks = take (b .darks) dark; lits = take (b .lits) lit };
+    }
 
 abbrev pub memory-of : {R : Type 0} → List (DarkOrder R) → List (LitOrder R) → List (Fill R) → Memory
 memory-of dark lit fills = record { darks = length dark; lits = length lit; fills = length fills }
+
+-- the contents of a book with this core and these tables, of which the first places count
+abbrev pub contents-with : {R : Type 0} → Core → ℕ → List (DarkOrder R) → ℕ → List (LitOrder R) → Contents R
+contents-with k darks dark lits lit = record { away = k .away; trades = k .trades; darks = take darks dark; lits = take lits lit }
+
+-- the contents of a book with this core and these queues
+abbrev pub contents-in : {R : Type 0} → Core → Queue (DarkOrder R) → Queue (LitOrder R) → Contents R
+contents-in k darks lits = contents-of (k .away) (k .trades) darks lits
 
 -- a whole call: its answer and the book are those of the only step there is, and the fill list begins with its fills,
 -- later places as they were

@@ -1,10 +1,11 @@
 // What an accepted request does, and settling after it.
 ghost use mathlib.Core.Path.{_≡_};
 ghost use Prim.Native.Nat.{_+_, _<_, _≤_};
-ghost use Rattle.queue.specs.Queues.{queued, room, Same-places};
+ghost use Rattle.queue.specs.Queues.{room, Same-places};
 ghost use Rattle.book.specs.declared.call.Request.the-variants.{Dark, Sdl};
 ghost use Rattle.book.specs.declared.session.Session.{Session as TheSession};
-ghost use Rattle.book.specs.Steps.{active-sdl, valued-at, Has-place, Acted, Settled-in};
+ghost use Rattle.book.specs.Grounds.{facility-of};
+ghost use Rattle.book.specs.Steps.{contents-in, active-sdl, valued-at, Has-place, Acted, Settled-in};
 use crate::book::Core;
 use crate::call::Request;
 use crate::call::SdlOrder;
@@ -29,7 +30,11 @@ use queue::queue::Queue;
 fn value_price<R: Copy>(quote: &Quote, o: &SdlOrder<R>) -> u32
     ensures { λ r. ⌜ r ≡ valued-at (now (quote .entry)) (now (o .entry)) ⌝ }
 {
-    if o.limit == 0 { quote.against(o.side) } else { o.limit }
+    if o.limit == 0 {
+        quote.against(o.side)
+    } else {
+        o.limit
+    }
 }
 
 // An SDL order as it sweeps.
@@ -38,16 +43,36 @@ fn activate_sdl<R: Copy>(lot: u32, quote: &Quote, o: &SdlOrder<R>) -> Active<R>
     ensures { λ r. ⌜ r ≡ active-sdl lot (now (quote .entry)) (now (o .entry)) ⌝ }
 {
     let size = size_of(lot, o.quantity, value_price(quote, o));
-    let form = Form::Sdl { limit: o.limit, seek: o.seek, size };
-    Active { member: o.member, reference: o.reference, side: o.side, remaining: o.quantity, minimum: 0, jitney: o.jitney, form }
+    let form = Form::Sdl {
+        limit: o.limit,
+        seek: o.seek,
+        size,
+    };
+    Active {
+        member: o.member,
+        reference: o.reference,
+        side: o.side,
+        remaining: o.quantity,
+        minimum: 0,
+        jitney: o.jitney,
+        form,
+    }
 }
 
 // In Continuous a Dark order sweeps, and its remainder joins the end; else it only joins: the shares that it traded.
-fn enter<R: Reference, D: Priority, L: Priority>(p: &Priorities<D, L>, session: Session, core: &mut Core, d: &DarkOrder<R>, darks: &mut Queue<DarkOrder<R>>, lits: &mut Queue<LitOrder<R>>, fills: &mut Queue<Fill<R>>) -> u32
+fn enter<R: Reference, D: Priority, L: Priority>(
+    p: &Priorities<D, L>,
+    session: Session,
+    core: &mut Core,
+    d: &DarkOrder<R>,
+    darks: &mut Queue<DarkOrder<R>>,
+    lits: &mut Queue<LitOrder<R>>,
+    fills: &mut Queue<Fill<R>>,
+) -> u32
     requires place { ⌜ now darks .len < room (now darks) ⌝ }
     requires room { ⌜ now fills .len + now darks .len + now lits .len < room (now fills) ⌝ }
     requires trades { ⌜ now core .trades + now darks .len + now lits .len < 1000000 ⌝ }
-    ensures acted { λ r. ⌜ Acted (record { lot = now (core .entry) .lot; orderings = record { dark = D·Priority .order (now (p .entry) .dark); lit = L·Priority .order (now (p .entry) .lit) }; number = R·Reference .number }) session (record { away = now (core .entry) .away; trades = now (core .entry) .trades; darks = queued (now (darks .entry)); lits = queued (now (lits .entry)) }) (Dark (now (d .entry))) (now (fills .entry)) r 0 (record { away = now (core .exit) .away; trades = now (core .exit) .trades; darks = queued (now (darks .exit)); lits = queued (now (lits .exit)) }) (now (fills .exit)) ⌝ }
+    ensures acted { λ r. ⌜ Acted (facility-of (R·Reference .number) (D·Priority .order) (L·Priority .order) (now (p .entry)) (now (core .entry) .lot)) session (contents-in (now (core .entry)) (now (darks .entry)) (now (lits .entry))) (Dark (now (d .entry))) (now (fills .entry)) r 0 (contents-in (now (core .exit)) (now (darks .exit)) (now (lits .exit))) (now (fills .exit)) ⌝ }
     ensures lot { λ _. ⌜ now (core .exit) .lot ≡ now (core .entry) .lot ⌝ }
     ensures darks { λ _. ⌜ Same-places (now (darks .entry)) (now (darks .exit)) ⌝ }
     ensures lits { λ _. ⌜ Same-places (now (lits .entry)) (now (lits .exit)) ⌝ }
@@ -65,18 +90,30 @@ fn enter<R: Reference, D: Priority, L: Priority>(p: &Priorities<D, L>, session: 
 }
 
 // An SDL order sweeps: the shares that it traded, and those left of it, which are cancelled.
-fn seek<R: Reference, D: Priority, L: Priority>(p: &Priorities<D, L>, core: &mut Core, o: &SdlOrder<R>, darks: &mut Queue<DarkOrder<R>>, lits: &mut Queue<LitOrder<R>>, fills: &mut Queue<Fill<R>>) -> (u32, u32)
+fn seek<R: Reference, D: Priority, L: Priority>(
+    p: &Priorities<D, L>,
+    core: &mut Core,
+    o: &SdlOrder<R>,
+    darks: &mut Queue<DarkOrder<R>>,
+    lits: &mut Queue<LitOrder<R>>,
+    fills: &mut Queue<Fill<R>>,
+) -> (u32, u32)
     requires lot { ⌜ now core .lot ≤ 1000 ⌝ }
     requires room { ⌜ now fills .len + now darks .len + now lits .len < room (now fills) ⌝ }
     requires trades { ⌜ now core .trades + now darks .len + now lits .len < 1000000 ⌝ }
-    ensures acted { λ r. ⌜ ((s : TheSession) → Acted (record { lot = now (core .entry) .lot; orderings = record { dark = D·Priority .order (now (p .entry) .dark); lit = L·Priority .order (now (p .entry) .lit) }; number = R·Reference .number }) s (record { away = now (core .entry) .away; trades = now (core .entry) .trades; darks = queued (now (darks .entry)); lits = queued (now (lits .entry)) }) (Sdl (now (o .entry))) (now (fills .entry)) (r .0) (r .1) (record { away = now (core .exit) .away; trades = now (core .exit) .trades; darks = queued (now (darks .exit)); lits = queued (now (lits .exit)) }) (now (fills .exit))) ⌝ }
+    ensures acted { λ r. ⌜ ((s : TheSession) → Acted (facility-of (R·Reference .number) (D·Priority .order) (L·Priority .order) (now (p .entry)) (now (core .entry) .lot)) s (contents-in (now (core .entry)) (now (darks .entry)) (now (lits .entry))) (Sdl (now (o .entry))) (now (fills .entry)) (r .0) (r .1) (contents-in (now (core .exit)) (now (darks .exit)) (now (lits .exit))) (now (fills .exit))) ⌝ }
     ensures lot { λ _. ⌜ now (core .exit) .lot ≡ now (core .entry) .lot ⌝ }
     ensures darks { λ _. ⌜ Same-places (now (darks .entry)) (now (darks .exit)) ⌝ }
     ensures lits { λ _. ⌜ Same-places (now (lits .entry)) (now (lits .exit)) ⌝ }
     ensures fills { λ _. ⌜ Same-places (now (fills .entry)) (now (fills .exit)) ⌝ }
 {
     let quote = Quote::of(core.away, lits.orders());
-    let mut g = Progress { active: activate_sdl(core.lot, &quote, o), trades: core.trades, dark: None, lit: None };
+    let mut g = Progress {
+        active: activate_sdl(core.lot, &quote, o),
+        trades: core.trades,
+        dark: None,
+        lit: None,
+    };
     sweep(p, &quote, &mut g, darks, lits, fills);
     core.trades = g.trades;
     let remaining = g.active.remaining;
@@ -84,12 +121,20 @@ fn seek<R: Reference, D: Priority, L: Priority>(p: &Priorities<D, L>, core: &mut
 }
 
 // What an accepted request does before settling: the shares that its order traded, and those taken away.
-pub fn act<R: Reference, D: Priority, L: Priority>(p: &Priorities<D, L>, session: Session, core: &mut Core, request: &Request<R>, darks: &mut Queue<DarkOrder<R>>, lits: &mut Queue<LitOrder<R>>, fills: &mut Queue<Fill<R>>) -> (u32, u32)
+pub fn act<R: Reference, D: Priority, L: Priority>(
+    p: &Priorities<D, L>,
+    session: Session,
+    core: &mut Core,
+    request: &Request<R>,
+    darks: &mut Queue<DarkOrder<R>>,
+    lits: &mut Queue<LitOrder<R>>,
+    fills: &mut Queue<Fill<R>>,
+) -> (u32, u32)
     requires lot { ⌜ now core .lot ≤ 1000 ⌝ }
     requires place { ⌜ Has-place (now request) (now darks .len) (room (now darks)) (now lits .len) (room (now lits)) ⌝ }
     requires room { ⌜ now fills .len + now darks .len + now lits .len < room (now fills) ⌝ }
     requires trades { ⌜ now core .trades + now darks .len + now lits .len < 1000000 ⌝ }
-    ensures acted { λ r. ⌜ Acted (record { lot = now (core .entry) .lot; orderings = record { dark = D·Priority .order (now (p .entry) .dark); lit = L·Priority .order (now (p .entry) .lit) }; number = R·Reference .number }) session (record { away = now (core .entry) .away; trades = now (core .entry) .trades; darks = queued (now (darks .entry)); lits = queued (now (lits .entry)) }) (now (request .entry)) (now (fills .entry)) (r .0) (r .1) (record { away = now (core .exit) .away; trades = now (core .exit) .trades; darks = queued (now (darks .exit)); lits = queued (now (lits .exit)) }) (now (fills .exit)) ⌝ }
+    ensures acted { λ r. ⌜ Acted (facility-of (R·Reference .number) (D·Priority .order) (L·Priority .order) (now (p .entry)) (now (core .entry) .lot)) session (contents-in (now (core .entry)) (now (darks .entry)) (now (lits .entry))) (now (request .entry)) (now (fills .entry)) (r .0) (r .1) (contents-in (now (core .exit)) (now (darks .exit)) (now (lits .exit))) (now (fills .exit)) ⌝ }
     ensures lot { λ _. ⌜ now (core .exit) .lot ≡ now (core .entry) .lot ⌝ }
     ensures darks { λ _. ⌜ Same-places (now (darks .entry)) (now (darks .exit)) ⌝ }
     ensures lits { λ _. ⌜ Same-places (now (lits .entry)) (now (lits .exit)) ⌝ }
@@ -114,10 +159,17 @@ pub fn act<R: Reference, D: Priority, L: Priority>(p: &Priorities<D, L>, session
 }
 
 // In Continuous, Dark orders settle.
-pub fn settle_in<R: Reference, D: Priority, L: Priority>(p: &Priorities<D, L>, session: Session, core: &mut Core, darks: &mut Queue<DarkOrder<R>>, lits: &mut Queue<LitOrder<R>>, fills: &mut Queue<Fill<R>>)
+pub fn settle_in<R: Reference, D: Priority, L: Priority>(
+    p: &Priorities<D, L>,
+    session: Session,
+    core: &mut Core,
+    darks: &mut Queue<DarkOrder<R>>,
+    lits: &mut Queue<LitOrder<R>>,
+    fills: &mut Queue<Fill<R>>,
+)
     requires room { ⌜ now fills .len + now darks .len + now lits .len ≤ room (now fills) ⌝ }
     requires trades { ⌜ now core .trades + now darks .len + now lits .len ≤ 1000000 ⌝ }
-    ensures settled { λ _. ⌜ Settled-in (record { lot = now (core .entry) .lot; orderings = record { dark = D·Priority .order (now (p .entry) .dark); lit = L·Priority .order (now (p .entry) .lit) }; number = R·Reference .number }) session (record { away = now (core .entry) .away; trades = now (core .entry) .trades; darks = queued (now (darks .entry)); lits = queued (now (lits .entry)) }) (now (fills .entry)) (record { away = now (core .exit) .away; trades = now (core .exit) .trades; darks = queued (now (darks .exit)); lits = queued (now (lits .exit)) }) (now (fills .exit)) ⌝ }
+    ensures settled { λ _. ⌜ Settled-in (facility-of (R·Reference .number) (D·Priority .order) (L·Priority .order) (now (p .entry)) (now (core .entry) .lot)) session (contents-in (now (core .entry)) (now (darks .entry)) (now (lits .entry))) (now (fills .entry)) (contents-in (now (core .exit)) (now (darks .exit)) (now (lits .exit))) (now (fills .exit)) ⌝ }
     ensures lot { λ _. ⌜ now (core .exit) .lot ≡ now (core .entry) .lot ⌝ }
     ensures darks { λ _. ⌜ Same-places (now (darks .entry)) (now (darks .exit)) ⌝ }
     ensures lits { λ _. ⌜ Same-places (now (lits .entry)) (now (lits .exit)) ⌝ }

@@ -45,7 +45,14 @@ fn first_places<T: Copy>(places: &[T], n: usize) -> &[T]
 }
 
 // Ground 3. Lengths are tested before anything is read.
-fn memory_fails<R: Reference>(core: &Core, dark: &[DarkOrder<R>], darks: usize, lit: &[LitOrder<R>], lits: usize, fills: usize) -> bool
+fn memory_fails<R: Reference>(
+    core: &Core,
+    dark: &[DarkOrder<R>],
+    darks: usize,
+    lit: &[LitOrder<R>],
+    lits: usize,
+    fills: usize,
+) -> bool
     requires lot { ⌜ 0 < now core .lot ⌝ }
     requires darks { ⌜ darks ≤ 256 ⌝ }
     requires lits { ⌜ lits ≤ 256 ⌝ }
@@ -83,7 +90,13 @@ fn session_fails<R: Copy>(session: Session, call: &Call<R>) -> bool
 }
 
 // Whether an entry may not use this reference.
-fn is_taken<R: Reference>(core: &Core, darks: &[DarkOrder<R>], lits: &[LitOrder<R>], member: u32, reference: &R) -> bool
+fn is_taken<R: Reference>(
+    core: &Core,
+    darks: &[DarkOrder<R>],
+    lits: &[LitOrder<R>],
+    member: u32,
+    reference: &R,
+) -> bool
     requires darks { ⌜ length (now darks) ≤ 256 ⌝ }
     requires lits { ⌜ length (now lits) ≤ 256 ⌝ }
     ensures { λ r. ⌜ r ≡ taken (R·Reference .number) (record { away = now (core .entry) .away; trades = now (core .entry) .trades; darks = now (darks .entry); lits = now (lits .entry) }) member (now (reference .entry)) ⌝ }
@@ -92,7 +105,12 @@ fn is_taken<R: Reference>(core: &Core, darks: &[DarkOrder<R>], lits: &[LitOrder<
 }
 
 // Ground 8.
-fn reference_fails<R: Reference>(core: &Core, darks: &[DarkOrder<R>], lits: &[LitOrder<R>], call: &Call<R>) -> bool
+fn reference_fails<R: Reference>(
+    core: &Core,
+    darks: &[DarkOrder<R>],
+    lits: &[LitOrder<R>],
+    call: &Call<R>,
+) -> bool
     requires darks { ⌜ length (now darks) ≤ 256 ⌝ }
     requires lits { ⌜ length (now lits) ≤ 256 ⌝ }
     ensures { λ r. ⌜ r ≡ reference-failing (R·Reference .number) (record { away = now (core .entry) .away; trades = now (core .entry) .trades; darks = now (darks .entry); lits = now (lits .entry) }) (now (call .entry)) ⌝ }
@@ -162,7 +180,12 @@ fn crossing_fails<R: Copy>(away: Away, lits: &[LitOrder<R>], request: &Request<R
 }
 
 // Ground 14.
-fn full_fails<R: Reference>(core: &Core, darks: &[DarkOrder<R>], lits: &[LitOrder<R>], call: &Call<R>) -> bool
+fn full_fails<R: Reference>(
+    core: &Core,
+    darks: &[DarkOrder<R>],
+    lits: &[LitOrder<R>],
+    call: &Call<R>,
+) -> bool
     ensures { λ r. ⌜ r ≡ full-failing (record { away = now (core .entry) .away; trades = now (core .entry) .trades; darks = now (darks .entry); lits = now (lits .entry) }) (now (call .entry)) ⌝ }
 {
     match call {
@@ -173,7 +196,13 @@ fn full_fails<R: Reference>(core: &Core, darks: &[DarkOrder<R>], lits: &[LitOrde
 }
 
 // The grounds that a call's fields can meet once its codes are read.
-fn field_ground<R: Reference>(core: &Core, darks: &[DarkOrder<R>], lits: &[LitOrder<R>], call: &Call<R>, request: &Request<R>) -> Option<Ground>
+fn field_ground<R: Reference>(
+    core: &Core,
+    darks: &[DarkOrder<R>],
+    lits: &[LitOrder<R>],
+    call: &Call<R>,
+    request: &Request<R>,
+) -> Option<Ground>
     requires lot { ⌜ 0 < now core .lot ⌝ }
     requires darks { ⌜ length (now darks) ≤ 256 ⌝ }
     requires lits { ⌜ length (now lits) ≤ 256 ⌝ }
@@ -202,7 +231,16 @@ fn field_ground<R: Reference>(core: &Core, darks: &[DarkOrder<R>], lits: &[LitOr
 }
 
 // The request that a call makes, or the first ground that holds against it.
-pub fn admit<R: Reference>(session: Session, core: &Core, dark: &[DarkOrder<R>], darks: usize, lit: &[LitOrder<R>], lits: usize, fills: usize, call: &Call<R>) -> Result<Request<R>, Ground>
+pub fn admit<R: Reference>(
+    session: Session,
+    core: &Core,
+    dark: &[DarkOrder<R>],
+    darks: usize,
+    lit: &[LitOrder<R>],
+    lits: usize,
+    fills: usize,
+    call: &Call<R>,
+) -> Result<Request<R>, Ground>
     requires lot { ⌜ 0 < now core .lot ⌝ }
     requires darks { ⌜ darks ≤ 256 ⌝ }
     requires lits { ⌜ lits ≤ 256 ⌝ }

@@ -42,7 +42,15 @@ fn read_sdl<R: Copy>(e: &SdlEntry<R>) -> Option<SdlOrder<R>>
     let side = Side::from_code(e.side)?;
     let seek = Seek::from_code(e.seek)?;
     let jitney = mark_from_code(e.jitney)?;
-    Some(SdlOrder { member: e.member, reference: e.reference, side, quantity: e.quantity, limit: e.limit, seek, jitney })
+    Some(SdlOrder {
+        member: e.member,
+        reference: e.reference,
+        side,
+        quantity: e.quantity,
+        limit: e.limit,
+        seek,
+        jitney,
+    })
 }
 
 fn read_lit<R: Copy>(e: &LitEntry<R>) -> Option<LitOrder<R>>
@@ -50,7 +58,14 @@ fn read_lit<R: Copy>(e: &LitEntry<R>) -> Option<LitOrder<R>>
 {
     let side = Side::from_code(e.side)?;
     let jitney = mark_from_code(e.jitney)?;
-    Some(LitOrder { member: e.member, reference: e.reference, side, remaining: e.quantity, price: e.price, jitney })
+    Some(LitOrder {
+        member: e.member,
+        reference: e.reference,
+        side,
+        remaining: e.quantity,
+        price: e.price,
+        jitney,
+    })
 }
 
 // The request that a call makes, or nothing where a code is not listed.

@@ -1,10 +1,11 @@
 // A request on the memory that a call brings.
 ghost use mathlib.Core.Path.{_≡_};
 ghost use Prim.Native.Nat.{_+_, _<_, _≤_};
-ghost use lib.ListN.{length, take};
+ghost use lib.ListN.{length};
 ghost use denote.Ref.{name};
-ghost use Rattle.queue.specs.Queues.{queued, room};
-ghost use Rattle.book.specs.Steps.{Has-place, Worked, Ran};
+ghost use Rattle.queue.specs.Queues.{room};
+ghost use Rattle.book.specs.Grounds.{facility-of};
+ghost use Rattle.book.specs.Steps.{contents-with, contents-in, Has-place, Worked, Ran};
 use crate::act::act;
 use crate::act::settle_in;
 use crate::book::Core;
@@ -20,13 +21,22 @@ use queue::queue::Queue;
 
 // What an accepted request does in `session`, and settling in the session `after` it: the three counts of the answer, and
 // how many orders are left in each table.
-fn work<R: Reference, D: Priority, L: Priority>(p: &Priorities<D, L>, session: Session, after: Session, core: &mut Core, request: &Request<R>, darks: &mut Queue<DarkOrder<R>>, lits: &mut Queue<LitOrder<R>>, fills: &mut Queue<Fill<R>>) -> (u32, u32, u32, usize, usize)
+fn work<R: Reference, D: Priority, L: Priority>(
+    p: &Priorities<D, L>,
+    session: Session,
+    after: Session,
+    core: &mut Core,
+    request: &Request<R>,
+    darks: &mut Queue<DarkOrder<R>>,
+    lits: &mut Queue<LitOrder<R>>,
+    fills: &mut Queue<Fill<R>>,
+) -> (u32, u32, u32, usize, usize)
     requires lot { ⌜ now core .lot ≤ 1000 ⌝ }
     requires place { ⌜ Has-place (now request) (now darks .len) (room (now darks)) (now lits .len) (room (now lits)) ⌝ }
     requires room { ⌜ now fills .len + now darks .len + now lits .len < room (now fills) ⌝ }
     requires trades { ⌜ now core .trades + now darks .len + now lits .len < 1000000 ⌝ }
     requires few { ⌜ now fills .len + now darks .len + now lits .len ≤ 512 ⌝ }
-    ensures worked { λ r. ⌜ Worked (record { lot = now (core .entry) .lot; orderings = record { dark = D·Priority .order (now (p .entry) .dark); lit = L·Priority .order (now (p .entry) .lit) }; number = R·Reference .number }) session after (record { away = now (core .entry) .away; trades = now (core .entry) .trades; darks = queued (now (darks .entry)); lits = queued (now (lits .entry)) }) (now (request .entry)) (now (fills .entry)) (r .1) (r .2) (record { away = now (core .exit) .away; trades = now (core .exit) .trades; darks = queued (now (darks .exit)); lits = queued (now (lits .exit)) }) (now (fills .exit)) ⌝ }
+    ensures worked { λ r. ⌜ Worked (facility-of (R·Reference .number) (D·Priority .order) (L·Priority .order) (now (p .entry)) (now (core .entry) .lot)) session after (contents-in (now (core .entry)) (now (darks .entry)) (now (lits .entry))) (now (request .entry)) (now (fills .entry)) (r .1) (r .2) (contents-in (now (core .exit)) (now (darks .exit)) (now (lits .exit))) (now (fills .exit)) ⌝ }
     ensures made { λ r. ⌜ r .0 ≡ now (fills .exit) .len ⌝ }
     ensures darksleft { λ r. ⌜ r .3 ≡ now (darks .exit) .len ⌝ }
     ensures litsleft { λ r. ⌜ r .4 ≡ now (lits .exit) .len ⌝ }
@@ -44,7 +54,18 @@ fn work<R: Reference, D: Priority, L: Priority>(p: &Priorities<D, L>, session: S
 
 // A request, on tables whose first places hold so many orders: the three counts of its answer, and how many orders are
 // left in each table.
-pub fn serve<R: Reference, D: Priority, L: Priority>(p: &Priorities<D, L>, session: Session, after: Session, core: &mut Core, request: &Request<R>, dark: &mut [DarkOrder<R>], darks: usize, lit: &mut [LitOrder<R>], lits: usize, fills: &mut [Fill<R>]) -> (u32, u32, u32, usize, usize)
+pub fn serve<R: Reference, D: Priority, L: Priority>(
+    p: &Priorities<D, L>,
+    session: Session,
+    after: Session,
+    core: &mut Core,
+    request: &Request<R>,
+    dark: &mut [DarkOrder<R>],
+    darks: usize,
+    lit: &mut [LitOrder<R>],
+    lits: usize,
+    fills: &mut [Fill<R>],
+) -> (u32, u32, u32, usize, usize)
     requires lot { ⌜ now core .lot ≤ 1000 ⌝ }
     requires trades { ⌜ now core .trades ≤ 999487 ⌝ }
     requires darks { ⌜ darks ≤ 256 ⌝ }
@@ -53,7 +74,7 @@ pub fn serve<R: Reference, D: Priority, L: Priority>(p: &Priorities<D, L>, sessi
     requires litplaces { ⌜ length (now lit) ≡ 256 ⌝ }
     requires fillplaces { ⌜ 513 ≤ length (now fills) ⌝ }
     requires place { ⌜ Has-place (now request) darks 256 lits 256 ⌝ }
-    ensures ran { λ r. ⌜ Ran (record { lot = now (core .entry) .lot; orderings = record { dark = D·Priority .order (now (p .entry) .dark); lit = L·Priority .order (now (p .entry) .lit) }; number = R·Reference .number }) session after (record { away = now (core .entry) .away; trades = now (core .entry) .trades; darks = take darks (now (dark .entry)); lits = take lits (now (lit .entry)) }) (now (request .entry)) (now (fills .entry)) (r .0) (r .1) (r .2) (record { away = now (core .exit) .away; trades = now (core .exit) .trades; darks = take (r .3) (now (dark .exit)); lits = take (r .4) (now (lit .exit)) }) (now (fills .exit)) ⌝ }
+    ensures ran { λ r. ⌜ Ran (facility-of (R·Reference .number) (D·Priority .order) (L·Priority .order) (now (p .entry)) (now (core .entry) .lot)) session after (contents-with (now (core .entry)) darks (now (dark .entry)) lits (now (lit .entry))) (now (request .entry)) (now (fills .entry)) (r .0) (r .1) (r .2) (contents-with (now (core .exit)) (r .3) (now (dark .exit)) (r .4) (now (lit .exit))) (now (fills .exit)) ⌝ }
     ensures lot { λ _. ⌜ now (core .exit) .lot ≡ now (core .entry) .lot ⌝ }
     ensures darks { λ r. ⌜ r .3 ≤ 256 ⌝ }
     ensures lits { λ r. ⌜ r .4 ≤ 256 ⌝ }
@@ -61,5 +82,14 @@ pub fn serve<R: Reference, D: Priority, L: Priority>(p: &Priorities<D, L>, sessi
     let mut dark_queue = Queue::new(dark, darks);
     let mut lit_queue = Queue::new(lit, lits);
     let mut made = Queue::new(fills, 0);
-    work(p, session, after, core, request, &mut dark_queue, &mut lit_queue, &mut made)
+    work(
+        p,
+        session,
+        after,
+        core,
+        request,
+        &mut dark_queue,
+        &mut lit_queue,
+        &mut made,
+    )
 }

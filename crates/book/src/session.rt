@@ -28,7 +28,8 @@ impl Session {
             }
             (Session::PreOpen, Call::Quote(_) | Call::Dark(_) | Call::Lit(_)) => Ok(()),
             (Session::Continuous, Call::Start) => Err(Ground::Session),
-            (Session::Continuous, Call::Quote(_) | Call::Dark(_) | Call::Sdl(_) | Call::Lit(_)) => Ok(()),
+            (Session::Continuous, Call::Quote(_) | Call::Dark(_) | Call::Sdl(_) | Call::Lit(_)) =>
+                Ok(()),
         }
     }
 

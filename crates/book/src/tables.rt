@@ -103,7 +103,12 @@ fn count_named<R: Reference, T: Listed<R>>(orders: &[T], member: u32, reference:
 }
 
 // How many orders the member has under this reference in the two tables.
-pub fn count_references<R: Reference>(darks: &[DarkOrder<R>], lits: &[LitOrder<R>], member: u32, reference: &R) -> usize
+pub fn count_references<R: Reference>(
+    darks: &[DarkOrder<R>],
+    lits: &[LitOrder<R>],
+    member: u32,
+    reference: &R,
+) -> usize
     requires darks { ⌜ length (now darks) ≤ 256 ⌝ }
     requires lits { ⌜ length (now lits) ≤ 256 ⌝ }
     ensures { λ r. ⌜ r ≡ times-named (R·Reference .number) (now (darks .entry)) (now (lits .entry)) member (now (reference .entry)) ⌝ }
@@ -112,7 +117,13 @@ pub fn count_references<R: Reference>(darks: &[DarkOrder<R>], lits: &[LitOrder<R
 }
 
 // Whether an order of the table `own` may stand there.
-fn is_fine<R: Reference, T: Listed<R>>(lot: u32, own: &[T], darks: &[DarkOrder<R>], lits: &[LitOrder<R>], order: &T) -> bool
+fn is_fine<R: Reference, T: Listed<R>>(
+    lot: u32,
+    own: &[T],
+    darks: &[DarkOrder<R>],
+    lits: &[LitOrder<R>],
+    order: &T,
+) -> bool
     requires lot { ⌜ 0 < lot ⌝ }
     requires darks { ⌜ length (now darks) ≤ 256 ⌝ }
     requires lits { ⌜ length (now lits) ≤ 256 ⌝ }
@@ -124,7 +135,12 @@ fn is_fine<R: Reference, T: Listed<R>>(lot: u32, own: &[T], darks: &[DarkOrder<R
 }
 
 // Whether every order of the table `own` may stand there.
-fn is_table_fine<R: Reference, T: Listed<R>>(lot: u32, own: &[T], darks: &[DarkOrder<R>], lits: &[LitOrder<R>]) -> bool
+fn is_table_fine<R: Reference, T: Listed<R>>(
+    lot: u32,
+    own: &[T],
+    darks: &[DarkOrder<R>],
+    lits: &[LitOrder<R>],
+) -> bool
     requires lot { ⌜ 0 < lot ⌝ }
     requires darks { ⌜ length (now darks) ≤ 256 ⌝ }
     requires lits { ⌜ length (now lits) ≤ 256 ⌝ }

@@ -82,6 +82,9 @@ impl<R: Reference> LitOrder<R> {
         requires { ⌜ 0 < lot ⌝ }
         ensures { λ r. ⌜ r ≡ sound-lit (R·Reference .number) lot (now (self .entry)) ⌝ }
     {
-        is_valid_member(self.member) && !self.reference.is_zero() && is_valid_price(self.price) && is_valid_quantity(lot, self.remaining)
+        is_valid_member(self.member)
+            && !self.reference.is_zero()
+            && is_valid_price(self.price)
+            && is_valid_quantity(lot, self.remaining)
     }
 }

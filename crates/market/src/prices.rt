@@ -6,7 +6,13 @@ use crate::codes::Side;
 pub fn is_valid_price(price: u32) -> bool
     ensures { λ r. ⌜ r ≡ valid-price price ⌝ }
 {
-    price >= 2 && price <= 4_000_000 && if price < 200 { price % 2 == 0 } else { price % 4 == 0 }
+    price >= 2
+        && price <= 4_000_000
+        && if price < 200 {
+            price % 2 == 0
+        } else {
+            price % 4 == 0
+        }
 }
 
 pub fn is_valid_cap(cap: u32) -> bool

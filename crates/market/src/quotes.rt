@@ -84,7 +84,11 @@ impl Quote {
     pub fn of<R: Copy>(away: Away, lits: &[LitOrder<R>]) -> Quote
         ensures { λ r. ⌜ r ≡ quote-of away (now (lits .entry)) ⌝ }
     {
-        Quote { bid: highest_bid(away.bid, lits), offer: lowest_offer(away.offer, lits), away }
+        Quote {
+            bid: highest_bid(away.bid, lits),
+            offer: lowest_offer(away.offer, lits),
+            away,
+        }
     }
 
     fn is_locked_or_crossed(&self) -> bool

@@ -32,9 +32,11 @@ module _ {X : Type 0} (able : X → Bool) (beats : X → X → Bool) (xs : List 
 
   stay : (j : ℕ) (y : X) → getD xs j y ≡ y → able x ≡ true → beats y x ≡ true → Best-from xs i (Some j) (pick able beats (drop i xs)) →
       Best-from xs i′ (Some j) (pick able beats (drop i′ xs))
-  stay j y r a b k =
-      (omega (arith, k .0), k .1
-      , λ d. rw (getD-default xs j d y (k .1)) (rw (h, k .2 y, r, a, b) (ap (λ z. found z y (drop (j + 1) xs)) (grown j (k .0)))))
+  stay j y r a b k = (
+    omega (arith, k .0),
+    k .1,
+    λ d. rw (getD-default xs j d y (k .1)) (rw (h, k .2 y, r, a, b) (ap (λ z. found z y (drop (j + 1) xs)) (grown j (k .0)))),
+  )
 
   here : i′ < length xs → (d : X) → found [] x (drop i xs) ≡ found (take (i′ - i′) (drop i′ xs)) (getD xs i′ d) (drop (i′ + 1) xs)
   here lt d =

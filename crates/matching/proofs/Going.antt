@@ -36,11 +36,12 @@ module _ {R : Type 0} (o : Orderings) (q : Quote) where
   one-more : (r₀ r r′ : Run R) (f : Fill R) (was list list′ : Queue (Fill R)) → ((fs : List (Fill R)) (t : Run R) → Swept o q r′ fs t → Swept o q r (f ∷ fs) t) →
       Appended list (f ∷ []) list′ → Going o q r₀ r was list → Going o q r₀ r′ was list′
   one-more r₀ r r′ f was list list′ w a g =
-      record
-      { made = g .made ++ f ∷ []
-      ; appended = appended-then (g .made) (f ∷ []) (g .appended) a
-      ; goes = λ fs t v.
-          subst (λ (gs : List (Fill R)). Swept o q r₀ gs t) (sym (append-assoc (g .made) (f ∷ []) fs)) (g .goes (f ∷ fs) t (w fs t v)) }
+      record {
+        made = g .made ++ f ∷ [];
+        appended = appended-then (g .made) (f ∷ []) (g .appended) a;
+        goes = λ fs t v.
+            subst (λ (gs : List (Fill R)). Swept o q r₀ gs t) (sym (append-assoc (g .made) (f ∷ []) fs)) (g .goes (f ∷ fs) t (w fs t v));
+      }
 
   pub one-dark : (r₀ r r′ : Run R) (b : List (DarkOrder R)) (d : DarkOrder R) (a : List (DarkOrder R)) (was list list′ : Queue (Fill R)) →
       choice o q r ≡ dark b d a → r′ ≡ after-dark q r b d a → Appended list (dark-fill (price-under q d) (r .progress) d ∷ []) list′ →

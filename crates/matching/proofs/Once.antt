@@ -42,7 +42,7 @@ module _ {R : Type 0} (o : Orderings) where
       let y : d′ ≡ d = cc in
       let z : a′ ≡ a = cc in
       let v′ : Swept o (quote-in c) (start-of (c .trades) (active-dark d) (b ++ a) (c .lits)) fs′ r′ =
-        subst₃ (λ l m n. Swept o (quote-in c) (start-of (c .trades) (active-dark m) (l ++ n) (c .lits)) fs′ r′) x y z v in
+      subst₃ (λ l m n. Swept o (quote-in c) (start-of (c .trades) (active-dark m) (l ++ n) (c .lits)) fs′ r′) x y z v in
       let i = swept-once w v′ in
       let u′ : Settles o (after-sweep (c .away) d r) gs′ e′ = subst₂ (λ m n. Settles o (after-sweep (c .away) m n) gs′ e′) y (sym (i .1)) u in
       let j = settles-once t u′ in

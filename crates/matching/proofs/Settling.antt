@@ -41,9 +41,11 @@ module _ {R : Type 0} (o : Orderings) where
   pub stops : (c₀ c : Contents R) (was list : Queue (Fill R)) → first-to-trade (quote-in c) (c .lits) (c .darks) ≡ nobody → Settling o c₀ c was list →
       Settled o c₀ was c list
   stops c₀ c was list e g =
-      record
-      { fills = g .made; made = g .appended
-      ; settles = subst (λ (fs : List (Fill R)). Settles o c₀ fs c) (append-nil (g .made)) (g .goes [] c (settled e)) }
+      record {
+        fills = g .made;
+        made = g .appended;
+        settles = subst (λ (fs : List (Fill R)). Settles o c₀ fs c) (append-nil (g .made)) (g .goes [] c (settled e));
+      }
 
   pub one-round : (c₀ c : Contents R) (before : List (DarkOrder R)) (d : DarkOrder R) (after : List (DarkOrder R)) (c′ : Contents R) (remaining : ℕ) (was list list′ : Queue (Fill R)) →
       first-to-trade (quote-in c) (c .lits) (c .darks) ≡ found before d after →
@@ -51,12 +53,13 @@ module _ {R : Type 0} (o : Orderings) where
       Settling o c₀ c was list → Settling o c₀ c′ was list′
   one-round c₀ c before d after c′ remaining was list list′ e s g =
       let fs = s .swept .fills in
-      record
-      { made = g .made ++ fs
-      ; appended = appended-then (g .made) fs (g .appended) (s .swept .made)
-      ; goes = λ gs t v.
-          subst (λ (xs : List (Fill R)). Settles o c₀ xs t) (sym (append-assoc (g .made) fs gs))
-          (g .goes (fs ++ gs) t (sweeps before d after e (s .swept .swept) (subst (λ (x : Contents R). Settles o x gs t) (s .contents) v))) }
+      record {
+        made = g .made ++ fs;
+        appended = appended-then (g .made) fs (g .appended) (s .swept .made);
+        goes = λ gs t v.
+            subst (λ (xs : List (Fill R)). Settles o c₀ xs t) (sym (append-assoc (g .made) fs gs))
+            (g .goes (fs ++ gs) t (sweeps before d after e (s .swept .swept) (subst (λ (x : Contents R). Settles o x gs t) (s .contents) v)));
+      }
 
 two-chosen : {R : Type 0} (t : Bool) (b : List (DarkOrder R)) (d : DarkOrder R) (a : List (DarkOrder R)) (c : List (LitOrder R)) (l : LitOrder R) (f : List (LitOrder R)) →
     cond t (dark b d a) (lit c l f) ≡ no-one → _≡_ {A = ℕ} 0 1
@@ -85,7 +88,7 @@ module _ {R : Type 0} (o : Orderings) (q : Quote) (w : Away) (trades : ℕ) (ls 
       let p = picked-able (can-trade q ls ds) (λ x y. false) ds before d after s in
       let r = start-of trades (active-dark d) (before ++ after) ls in
       let none : some-in able (before ++ after) ≡ false =
-        none-picked able _ (before ++ after) (no-dark-left q (d .side) (best-lit o q (r .progress) ls) (best-dark o q (r .progress) ls (before ++ after)) c) in
+      none-picked able _ (before ++ after) (no-dark-left q (d .side) (best-lit o q (r .progress) ls) (best-dark o q (r .progress) ls (before ++ after)) c) in
       let some : some-in able ds ≡ true = p .0 in
       let same : some-in able (before ++ d ∷ after) ≡ some-in able (before ++ after) = some-split able before d after (not-itself q ls d) in
       let all : some-in able ds ≡ some-in able (before ++ d ∷ after) = ap (some-in able) (p .1) in
@@ -145,17 +148,18 @@ module _ {R : Type 0} (o : Orderings) (c : Contents R) (at : ℕ) (d : DarkOrder
       Swept-dark o q (q .away) (c .trades) d out (c .lits) list remaining (record { away = q .away; trades = trades; darks = ds; lits = ls }) list′ →
       (first-to-trade (quote-in c) (c .lits) (c .darks) ≡ found (take at (c .darks)) d (drop (at + 1) (c .darks)))
       × Swept-dark o (quote-in c) (c .away) (c .trades) d (without at (c .darks)) (c .lits) list remaining
-        (record { away = c .away; trades = trades; darks = ds; lits = ls }) list′
+      (record { away = c .away; trades = trades; darks = ds; lits = ls }) list′
   the-round q lv dv out qe le de f read oe s =
       let xs = c .darks in
       let g : first-to-trade q lv dv ≡ found (take at dv) (getD dv at d) (drop (at + 1) dv) = f .1 d in
       let h : first-to-trade (quote-in c) (c .lits) xs ≡ found (take at xs) (getD xs at d) (drop (at + 1) xs) =
-        subst₃ (λ (q : Quote) (ls : List (LitOrder R)) (ds : List (DarkOrder R)). first-to-trade q ls ds ≡ found (take at ds) (getD ds at d) (drop (at + 1) ds)) qe le de g in
-      ( h ∙ ap (λ x. found (take at xs) x (drop (at + 1) xs)) (sym read)
-      , subst₂
-        (λ (q : Quote) (ys : List (DarkOrder R)).
-          Swept-dark o q (q .away) (c .trades) d ys (c .lits) list remaining (record { away = q .away; trades = trades; darks = ds; lits = ls }) list′)
-        qe oe s )
+      subst₃ (λ (q : Quote) (ls : List (LitOrder R)) (ds : List (DarkOrder R)). first-to-trade q ls ds ≡ found (take at ds) (getD ds at d) (drop (at + 1) ds)) qe le de g in (
+        h ∙ ap (λ x. found (take at xs) x (drop (at + 1) xs)) (sym read),
+        subst₂
+            (λ (q : Quote) (ys : List (DarkOrder R)).
+            Swept-dark o q (q .away) (c .trades) d ys (c .lits) list remaining (record { away = q .away; trades = trades; darks = ds; lits = ls }) list′)
+            qe oe s,
+      )
 
 -- the first that passes, read from the front
 module _ {X : Type 0} (p : X → Bool) where

@@ -13,7 +13,7 @@ use Rattle.market.specs.declared.quotes.Away.{Away}
 use Rattle.market.specs.declared.quotes.Quote.{Quote}
 use Rattle.market.specs.Quotes.{quote-of}
 use Rattle.queue.specs.declared.queue.Queue.{Queue}
-use Rattle.queue.specs.Queues.{Appended}
+use Rattle.queue.specs.Queues.{queued, Appended}
 use Rattle.matching.specs.declared.active.Active.{Active}
 use Rattle.matching.specs.declared.active.Form.the-variants as form
 use Rattle.matching.specs.Choice.{Pick, nobody, found, first}
@@ -27,15 +27,26 @@ pub record Contents (R : Type 0) : Type 0 where
   pub darks : List (DarkOrder R)
   pub lits : List (LitOrder R)
 
+-- the contents with these queues
+abbrev pub contents-of : {R : Type 0} → Away → ℕ → Queue (DarkOrder R) → Queue (LitOrder R) → Contents R
+contents-of w trades darks lits = record { away = w; trades = trades; darks = queued darks; lits = queued lits }
+
+-- the quote with what rests in them
 abbrev pub quote-in : {R : Type 0} → Contents R → Quote
 quote-in c = quote-of (c .away) (c .lits)
 
 -- a Dark order as it sweeps
 abbrev pub active-dark : {R : Type 0} → DarkOrder R → Active R
 active-dark d =
-    record
-    { member = d .member; reference = d .reference; side = d .side; remaining = d .remaining; minimum = d .minimum; jitney = d .jitney
-    ; form = form.Dark (d .peg) (d .cap) (d .contra) (d .key) }
+    record {
+      member = d .member;
+      reference = d .reference;
+      side = d .side;
+      remaining = d .remaining;
+      minimum = d .minimum;
+      jitney = d .jitney;
+      form = form.Dark (d .peg) (d .cap) (d .contra) (d .key);
+    }
 
 -- a sweep that begins
 abbrev pub start-of : {R : Type 0} → ℕ → Active R → List (DarkOrder R) → List (LitOrder R) → Run R
@@ -44,9 +55,18 @@ start-of trades a ds ls = record { progress = record { active = a; trades = trad
 -- what a Dark order that swept leaves to rest
 abbrev pub dark-kept : {R : Type 0} → DarkOrder R → Active R → DarkOrder R
 dark-kept d a =
-    record
-    { member = d .member; reference = d .reference; side = d .side; remaining = a .remaining; peg = d .peg; cap = d .cap; contra = d .contra
-    ; minimum = a .minimum; jitney = d .jitney; key = d .key }
+    record {
+      member = d .member;
+      reference = d .reference;
+      side = d .side;
+      remaining = a .remaining;
+      peg = d .peg;
+      cap = d .cap;
+      contra = d .contra;
+      minimum = a .minimum;
+      jitney = d .jitney;
+      key = d .key;
+    }
 
 -- what remains of a Dark order that swept stands at the end of the queue
 abbrev pub after-sweep : {R : Type 0} → Away → DarkOrder R → Run R → Contents R

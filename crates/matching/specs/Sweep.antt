@@ -19,7 +19,7 @@ use Rattle.market.specs.declared.quotes.Quote.{Quote}
 use Rattle.market.specs.Prices.{better}
 use Rattle.market.specs.Quotes.{dark-price, nearest-lit}
 use Rattle.queue.specs.declared.queue.Queue.{Queue}
-use Rattle.queue.specs.Queues.{Appended}
+use Rattle.queue.specs.Queues.{queued, Appended}
 use Rattle.matching.specs.declared.active.Active.{Active}
 use Rattle.matching.specs.declared.active.Form.{Form}
 use Rattle.matching.specs.declared.active.Form.the-variants as form
@@ -27,6 +27,7 @@ use Rattle.matching.specs.declared.active.DarkTerms.{DarkTerms}
 use Rattle.matching.specs.declared.active.LitTerms.{LitTerms}
 use Rattle.matching.specs.declared.active.LastLevel.{LastLevel}
 use Rattle.matching.specs.declared.active.Found.{Found}
+use Rattle.matching.specs.declared.active.Priorities.{Priorities}
 use Rattle.matching.specs.declared.active.Progress.{Progress}
 use Rattle.matching.specs.declared.active.Next.{Next}
 use Rattle.matching.specs.declared.active.Next.the-variants as next
@@ -38,11 +39,19 @@ pub record Orderings : Type 0 where
   pub dark : Ordering
   pub lit : Ordering
 
+-- what two priorities mean, each by its ordering
+abbrev pub orderings-of : {D L : Type 0} → (D → Ordering) → (L → Ordering) → Priorities D L → Orderings
+orderings-of dark lit p = record { dark = dark (p .dark); lit = lit (p .lit) }
+
 -- a sweep under way: how far it has come, and what rests
 pub record Run (R : Type 0) : Type 0 where
   pub progress : Progress R
   pub darks : List (DarkOrder R)
   pub lits : List (LitOrder R)
+
+-- a sweep over these queues
+abbrev pub run-of : {R : Type 0} → Progress R → Queue (DarkOrder R) → Queue (LitOrder R) → Run R
+run-of g darks lits = record { progress = g; darks = queued darks; lits = queued lits }
 
 -- the terms on which Dark orders are met: the quote at the sweep's beginning, and the lit orders that still rest
 abbrev pub dark-terms : {R : Type 0} → Quote → Active R → List (LitOrder R) → DarkTerms R
@@ -89,15 +98,30 @@ choice o q r = better-of q (r .progress .active .side) (best-lit o q (r .progres
 -- what a trade of n shares leaves of each order; a minimum falls to what remains
 abbrev pub active-after : {R : Type 0} → ℕ → Active R → Active R
 active-after n a =
-    record
-    { member = a .member; reference = a .reference; side = a .side; remaining = a .remaining - n; minimum = min (a .minimum) (a .remaining - n)
-    ; jitney = a .jitney; form = a .form }
+    record {
+      member = a .member;
+      reference = a .reference;
+      side = a .side;
+      remaining = a .remaining - n;
+      minimum = min (a .minimum) (a .remaining - n);
+      jitney = a .jitney;
+      form = a .form;
+    }
 
 abbrev pub dark-after : {R : Type 0} → ℕ → DarkOrder R → DarkOrder R
 dark-after n d =
-    record
-    { member = d .member; reference = d .reference; side = d .side; remaining = d .remaining - n; peg = d .peg; cap = d .cap; contra = d .contra
-    ; minimum = min (d .minimum) (d .remaining - n); jitney = d .jitney; key = d .key }
+    record {
+      member = d .member;
+      reference = d .reference;
+      side = d .side;
+      remaining = d .remaining - n;
+      peg = d .peg;
+      cap = d .cap;
+      contra = d .contra;
+      minimum = min (d .minimum) (d .remaining - n);
+      jitney = d .jitney;
+      key = d .key;
+    }
 
 abbrev pub lit-after : {R : Type 0} → ℕ → LitOrder R → LitOrder R
 lit-after n l = record { member = l .member; reference = l .reference; side = l .side; remaining = l .remaining - n; price = l .price; jitney = l .jitney }

@@ -9,8 +9,17 @@ use market::sizes::Size;
 // What an active order is: an SDL order, or a Dark order.
 #[derive(Clone, Copy)]
 pub enum Form {
-    Sdl { limit: u32, seek: Seek, size: Size },
-    Dark { peg: Peg, cap: u32, contra: Contra, key: u32 },
+    Sdl {
+        limit: u32,
+        seek: Seek,
+        size: Size,
+    },
+    Dark {
+        peg: Peg,
+        cap: u32,
+        contra: Contra,
+        key: u32,
+    },
 }
 
 // An order that sweeps.

@@ -60,7 +60,11 @@ pub impl<R: Copy> Offer for DarkOrder<R> as DarkOffer {
     }
 
     fn view(&self, _terms: &DarkTerms<R>) -> RestingView {
-        RestingView { member: self.member, jitney: self.jitney, remaining: self.remaining }
+        RestingView {
+            member: self.member,
+            jitney: self.jitney,
+            remaining: self.remaining,
+        }
     }
 }
 
@@ -82,7 +86,11 @@ pub impl<R: Copy> Offer for LitOrder<R> as LitOffer {
     }
 
     fn view(&self, _terms: &LitTerms<R>) -> RestingView {
-        RestingView { member: self.member, jitney: self.jitney, remaining: self.remaining }
+        RestingView {
+            member: self.member,
+            jitney: self.jitney,
+            remaining: self.remaining,
+        }
     }
 }
 
@@ -102,11 +110,24 @@ fn ask<R: Copy>(a: &Active<R>, kind: Kind, last: Option<LastLevel>, price: u32) 
     ensures { λ r. ⌜ r ≡ asking (now (a .entry)) kind last price ⌝ }
 {
     let need = need_at(last, price, a.remaining);
-    ActiveView { member: a.member, jitney: a.jitney, need, kind }
+    ActiveView {
+        member: a.member,
+        jitney: a.jitney,
+        need,
+        kind,
+    }
 }
 
 // Whether `x` is to be met before `y`, which stands earlier in the queue.
-fn beats<R: Copy, T: Offer, P: Priority>(a: &Active<R>, kind: Kind, last: Option<LastLevel>, p: &P, terms: &T::Terms, x: &T, y: &T) -> bool
+fn beats<R: Copy, T: Offer, P: Priority>(
+    a: &Active<R>,
+    kind: Kind,
+    last: Option<LastLevel>,
+    p: &P,
+    terms: &T::Terms,
+    x: &T,
+    y: &T,
+) -> bool
     ensures { λ r. ⌜ r ≡ beats-for (now (a .entry)) kind last (P·Priority .order (now (p .entry))) (T·Offer .costs (now (terms .entry))) (T·Offer .shown (now (terms .entry))) (now (x .entry)) (now (y .entry)) ⌝ }
 {
     let px = x.price(terms);
@@ -122,7 +143,14 @@ fn beats<R: Copy, T: Offer, P: Priority>(a: &Active<R>, kind: Kind, last: Option
 }
 
 // The best of the orders that may be met, with its price.
-pub fn choose<R: Copy, T: Offer, P: Priority>(orders: &[T], terms: &T::Terms, a: &Active<R>, kind: Kind, last: Option<LastLevel>, p: &P) -> Option<Found>
+pub fn choose<R: Copy, T: Offer, P: Priority>(
+    orders: &[T],
+    terms: &T::Terms,
+    a: &Active<R>,
+    kind: Kind,
+    last: Option<LastLevel>,
+    p: &P,
+) -> Option<Found>
     ensures { λ r. ⌜ Splits (T·Offer .costs (now (terms .entry))) (now (orders .entry)) r (pick (T·Offer .able (now (terms .entry))) (beats-for (now (a .entry)) kind last (P·Priority .order (now (p .entry))) (T·Offer .costs (now (terms .entry))) (T·Offer .shown (now (terms .entry)))) (now (orders .entry))) ⌝ }
 {
     let mut best: Option<usize> = None;
@@ -139,7 +167,10 @@ pub fn choose<R: Copy, T: Offer, P: Priority>(orders: &[T], terms: &T::Terms, a:
         }
     }
     match best {
-        Some(at) => Some(Found { at, price: orders[at].price(terms) }),
+        Some(at) => Some(Found {
+            at,
+            price: orders[at].price(terms),
+        }),
         None => None,
     }
 }

@@ -40,15 +40,28 @@ fn is_in_bounds<R: Copy>(t: &DarkTerms<R>, limit: u32, size: Size, price: u32) -
 }
 
 // Whether an SDL order meets a Dark order of this contra preference, priced `price`.
-fn sdl_dark<R: Copy>(t: &DarkTerms<R>, limit: u32, seek: Seek, size: Size, contra: Contra, price: u32) -> bool
+fn sdl_dark<R: Copy>(
+    t: &DarkTerms<R>,
+    limit: u32,
+    seek: Seek,
+    size: Size,
+    contra: Contra,
+    price: u32,
+) -> bool
     ensures { λ r. ⌜ r ≡ sdl-meets-dark (now (t .entry)) limit seek size contra price ⌝ }
 {
     let best = t.quote.against(t.active.side);
     match (contra, seek) {
         (Contra::Dark, _) => false,
-        (Contra::Sdl | Contra::All, Seek::ImprovingDark) if !is_beyond(t.active.side, best, price) => false,
+        (Contra::Sdl | Contra::All, Seek::ImprovingDark)
+            if !is_beyond(t.active.side, best, price) => false,
         (Contra::Sdl | Contra::All, Seek::ImprovingDark) => is_in_bounds(t, limit, size, price),
-        (Contra::Sdl | Contra::All, Seek::DarkAndLit | Seek::AllDark) => is_in_bounds(t, limit, size, price),
+        (Contra::Sdl | Contra::All, Seek::DarkAndLit | Seek::AllDark) => is_in_bounds(
+            t,
+            limit,
+            size,
+            price,
+        ),
     }
 }
 
@@ -62,7 +75,8 @@ fn are_both_midpoint(peg: Peg, contra: Contra, other_peg: Peg, other_contra: Con
     ensures { λ r. ⌜ r ≡ both-midpoint peg contra «other_peg» «other_contra» ⌝ }
 {
     match (peg, other_peg, contra, other_contra) {
-        (Peg::Midpoint, Peg::Midpoint, Contra::Dark | Contra::All, Contra::Dark | Contra::All) => true,
+        (Peg::Midpoint, Peg::Midpoint, Contra::Dark | Contra::All, Contra::Dark | Contra::All) =>
+            true,
         _ => false,
     }
 }
@@ -74,7 +88,15 @@ fn are_minimums_met<R: Copy>(a: &Active<R>, d: &DarkOrder<R>) -> bool
 }
 
 // Whether an active Dark order with these terms meets a resting one, priced `price`.
-fn dark_dark<R: Copy>(t: &DarkTerms<R>, peg: Peg, cap: u32, contra: Contra, key: u32, d: &DarkOrder<R>, price: u32) -> bool
+fn dark_dark<R: Copy>(
+    t: &DarkTerms<R>,
+    peg: Peg,
+    cap: u32,
+    contra: Contra,
+    key: u32,
+    d: &DarkOrder<R>,
+    price: u32,
+) -> bool
     ensures { λ r. ⌜ r ≡ dark-meets-dark (now (t .entry)) peg cap contra key (now (d .entry)) price ⌝ }
 {
     let midpoint = t.quote.midpoint();
@@ -91,7 +113,12 @@ fn meets_dark_at<R: Copy>(t: &DarkTerms<R>, d: &DarkOrder<R>, price: u32) -> boo
 {
     match t.active.form {
         Form::Sdl { limit, seek, size } => sdl_dark(t, limit, seek, size, d.contra, price),
-        Form::Dark { peg, cap, contra, key } => dark_dark(t, peg, cap, contra, key, d, price),
+        Form::Dark {
+            peg,
+            cap,
+            contra,
+            key,
+        } => dark_dark(t, peg, cap, contra, key, d, price),
     }
 }
 
@@ -110,7 +137,8 @@ fn sdl_lit<R: Copy>(t: &LitTerms<R>, limit: u32, seek: Seek, price: u32) -> bool
 {
     let side = t.active.side;
     match seek {
-        Seek::DarkAndLit => is_within(side, limit, price) && is_within(side, t.quote.away_against(side), price),
+        Seek::DarkAndLit => is_within(side, limit, price)
+            && is_within(side, t.quote.away_against(side), price),
         Seek::ImprovingDark | Seek::AllDark => false,
     }
 }
@@ -119,8 +147,17 @@ fn meets_lit_at<R: Copy>(t: &LitTerms<R>, price: u32) -> bool
     ensures { λ r. ⌜ r ≡ meets-lit (now (t .entry) .active .form) (now (t .entry)) price ⌝ }
 {
     match t.active.form {
-        Form::Sdl { limit, seek, size: _ } => sdl_lit(t, limit, seek, price),
-        Form::Dark { peg: _, cap: _, contra: _, key: _ } => false,
+        Form::Sdl {
+            limit,
+            seek,
+            size: _,
+        } => sdl_lit(t, limit, seek, price),
+        Form::Dark {
+            peg: _,
+            cap: _,
+            contra: _,
+            key: _,
+        } => false,
     }
 }
 

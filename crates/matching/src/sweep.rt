@@ -2,7 +2,7 @@
 ghost use mathlib.Core.Path.{_≡_};
 ghost use Prim.Native.Nat.{_+_, _<_};
 ghost use Rattle.queue.specs.Queues.{queued, room, Same-places};
-ghost use Rattle.matching.specs.Sweep.{next-of, choice, Finds, Sweeps};
+ghost use Rattle.matching.specs.Sweep.{orderings-of, run-of, next-of, choice, Finds, Sweeps};
 use crate::active::DarkTerms;
 use crate::active::Found;
 use crate::active::LitTerms;
@@ -45,24 +45,51 @@ fn nearer(side: Side, lit: Option<Found>, dark: Option<Found>) -> Next
 }
 
 // Whom the active order meets next.
-fn next<R: Copy, D: Priority, L: Priority>(p: &Priorities<D, L>, quote: &Quote, g: &Progress<R>, darks: &Queue<DarkOrder<R>>, lits: &Queue<LitOrder<R>>) -> Next
-    ensures { λ r. ⌜ Finds (now (quote .entry)) (queued (now (darks .entry))) (queued (now (lits .entry))) r (choice (record { dark = D·Priority .order (now (p .entry) .dark); lit = L·Priority .order (now (p .entry) .lit) }) (now (quote .entry)) (record { progress = now (g .entry); darks = queued (now (darks .entry)); lits = queued (now (lits .entry)) })) ⌝ }
+fn next<R: Copy, D: Priority, L: Priority>(
+    p: &Priorities<D, L>,
+    quote: &Quote,
+    g: &Progress<R>,
+    darks: &Queue<DarkOrder<R>>,
+    lits: &Queue<LitOrder<R>>,
+) -> Next
+    ensures { λ r. ⌜ Finds (now (quote .entry)) (queued (now (darks .entry))) (queued (now (lits .entry))) r (choice (orderings-of (D·Priority .order) (L·Priority .order) (now (p .entry))) (now (quote .entry)) (run-of (now (g .entry)) (now (darks .entry)) (now (lits .entry)))) ⌝ }
 {
     let active = g.active;
     let dark_orders = darks.orders();
     let lit_orders = lits.orders();
-    let lit_terms = LitTerms { quote: *quote, active };
-    let dark_terms = DarkTerms { quote: *quote, active, lit: nearest(active.side, lit_orders) };
+    let lit_terms = LitTerms {
+        quote: *quote,
+        active,
+    };
+    let dark_terms = DarkTerms {
+        quote: *quote,
+        active,
+        lit: nearest(active.side, lit_orders),
+    };
     let lit = choose(lit_orders, &lit_terms, &active, Kind::SdlLit, g.lit, &p.lit);
-    let dark = choose(dark_orders, &dark_terms, &active, kind_with_dark(active.form), g.dark, &p.dark);
+    let dark = choose(
+        dark_orders,
+        &dark_terms,
+        &active,
+        kind_with_dark(active.form),
+        g.dark,
+        &p.dark,
+    );
     nearer(active.side, lit, dark)
 }
 
 // Trades until nothing remains or nobody may be met.
-pub fn sweep<R: Copy, D: Priority, L: Priority>(p: &Priorities<D, L>, quote: &Quote, g: &mut Progress<R>, darks: &mut Queue<DarkOrder<R>>, lits: &mut Queue<LitOrder<R>>, fills: &mut Queue<Fill<R>>)
+pub fn sweep<R: Copy, D: Priority, L: Priority>(
+    p: &Priorities<D, L>,
+    quote: &Quote,
+    g: &mut Progress<R>,
+    darks: &mut Queue<DarkOrder<R>>,
+    lits: &mut Queue<LitOrder<R>>,
+    fills: &mut Queue<Fill<R>>,
+)
     requires room { ⌜ now fills .len + now darks .len + now lits .len < room (now fills) ⌝ }
     requires trades { ⌜ now g .trades + now darks .len + now lits .len < 1000000 ⌝ }
-    ensures sweeps { λ _. ⌜ Sweeps (record { dark = D·Priority .order (now (p .entry) .dark); lit = L·Priority .order (now (p .entry) .lit) }) (now (quote .entry)) (record { progress = now (g .entry); darks = queued (now (darks .entry)); lits = queued (now (lits .entry)) }) (now (fills .entry)) (record { progress = now (g .exit); darks = queued (now (darks .exit)); lits = queued (now (lits .exit)) }) (now (fills .exit)) ⌝ }
+    ensures sweeps { λ _. ⌜ Sweeps (orderings-of (D·Priority .order) (L·Priority .order) (now (p .entry))) (now (quote .entry)) (run-of (now (g .entry)) (now (darks .entry)) (now (lits .entry))) (now (fills .entry)) (run-of (now (g .exit)) (now (darks .exit)) (now (lits .exit))) (now (fills .exit)) ⌝ }
     ensures darks { λ _. ⌜ Same-places (now (darks .entry)) (now (darks .exit)) ⌝ }
     ensures lits { λ _. ⌜ Same-places (now (lits .entry)) (now (lits .exit)) ⌝ }
 {

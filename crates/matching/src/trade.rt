@@ -34,7 +34,11 @@ fn active_after<R: Copy>(a: &Active<R>, shares: u32) -> Active<R>
     ensures { λ r. ⌜ r ≡ active-left shares (now (a .entry)) ⌝ }
 {
     let remaining = a.remaining - shares;
-    Active { remaining, minimum: a.minimum.min(remaining), ..*a }
+    Active {
+        remaining,
+        minimum: a.minimum.min(remaining),
+        ..*a
+    }
 }
 
 fn dark_after<R: Copy>(d: &DarkOrder<R>, shares: u32) -> DarkOrder<R>
@@ -42,30 +46,64 @@ fn dark_after<R: Copy>(d: &DarkOrder<R>, shares: u32) -> DarkOrder<R>
     ensures { λ r. ⌜ r ≡ dark-remnant shares (now (d .entry)) ⌝ }
 {
     let remaining = d.remaining - shares;
-    DarkOrder { remaining, minimum: d.minimum.min(remaining), ..*d }
+    DarkOrder {
+        remaining,
+        minimum: d.minimum.min(remaining),
+        ..*d
+    }
 }
 
 fn lit_after<R: Copy>(l: &LitOrder<R>, shares: u32) -> LitOrder<R>
     requires { ⌜ shares ≤ now l .remaining ⌝ }
     ensures { λ r. ⌜ r ≡ lit-remnant shares (now (l .entry)) ⌝ }
 {
-    LitOrder { remaining: l.remaining - shares, ..*l }
+    LitOrder {
+        remaining: l.remaining - shares,
+        ..*l
+    }
 }
 
 fn level_at(last: Option<LastLevel>, price: u32, remaining: u32) -> Option<LastLevel>
     ensures { λ r. ⌜ r ≡ level-now last price remaining ⌝ }
 {
-    Some(LastLevel { price, need: need_at(last, price, remaining) })
+    Some(LastLevel {
+        price,
+        need: need_at(last, price, remaining),
+    })
 }
 
 // A trade of the active order with `other`.
-fn fill_with<R: Copy>(number: u32, a: &Active<R>, other: Party<R>, shares: u32, price: u32, kind: Kind) -> Fill<R>
+fn fill_with<R: Copy>(
+    number: u32,
+    a: &Active<R>,
+    other: Party<R>,
+    shares: u32,
+    price: u32,
+    kind: Kind,
+) -> Fill<R>
     ensures { λ r. ⌜ r ≡ fill-of number (now (a .entry)) other shares price kind ⌝ }
 {
-    let own = Party { member: a.member, reference: a.reference };
+    let own = Party {
+        member: a.member,
+        reference: a.reference,
+    };
     match a.side {
-        Side::Buy => Fill { number, buyer: own, seller: other, shares, price, kind },
-        Side::Sell => Fill { number, buyer: other, seller: own, shares, price, kind },
+        Side::Buy => Fill {
+            number,
+            buyer: own,
+            seller: other,
+            shares,
+            price,
+            kind,
+        },
+        Side::Sell => Fill {
+            number,
+            buyer: other,
+            seller: own,
+            shares,
+            price,
+            kind,
+        },
     }
 }
 
@@ -74,7 +112,12 @@ fn dark_progress<R: Copy>(g: &Progress<R>, shares: u32, price: u32) -> Progress<
     requires trades { ⌜ now g .trades < 1000000 ⌝ }
     ensures { λ r. ⌜ r ≡ progress-with-dark shares price (now (g .entry)) ⌝ }
 {
-    Progress { active: active_after(&g.active, shares), trades: g.trades + 1, dark: level_at(g.dark, price, g.active.remaining), lit: g.lit }
+    Progress {
+        active: active_after(&g.active, shares),
+        trades: g.trades + 1,
+        dark: level_at(g.dark, price, g.active.remaining),
+        lit: g.lit,
+    }
 }
 
 fn lit_progress<R: Copy>(g: &Progress<R>, shares: u32, price: u32) -> Progress<R>
@@ -82,7 +125,12 @@ fn lit_progress<R: Copy>(g: &Progress<R>, shares: u32, price: u32) -> Progress<R
     requires trades { ⌜ now g .trades < 1000000 ⌝ }
     ensures { λ r. ⌜ r ≡ progress-with-lit shares price (now (g .entry)) ⌝ }
 {
-    Progress { active: active_after(&g.active, shares), trades: g.trades + 1, dark: g.dark, lit: level_at(g.lit, price, g.active.remaining) }
+    Progress {
+        active: active_after(&g.active, shares),
+        trades: g.trades + 1,
+        dark: g.dark,
+        lit: level_at(g.lit, price, g.active.remaining),
+    }
 }
 
 // What is left of an order out of the queue joins the end.
@@ -126,7 +174,12 @@ fn shrink<R: Copy>(lits: &mut Queue<LitOrder<R>>, at: usize, l: LitOrder<R>)
 }
 
 // A trade with the Dark order that was found, which is returned as it stood.
-pub fn trade_dark<R: Copy>(g: &mut Progress<R>, darks: &mut Queue<DarkOrder<R>>, found: Found, fills: &mut Queue<Fill<R>>) -> DarkOrder<R>
+pub fn trade_dark<R: Copy>(
+    g: &mut Progress<R>,
+    darks: &mut Queue<DarkOrder<R>>,
+    found: Found,
+    fills: &mut Queue<Fill<R>>,
+) -> DarkOrder<R>
     requires at { ⌜ found .at < now darks .len ⌝ }
     requires remaining { ⌜ 0 < now g .active .remaining ⌝ }
     requires trades { ⌜ now g .trades < 1000000 ⌝ }
@@ -141,8 +194,18 @@ pub fn trade_dark<R: Copy>(g: &mut Progress<R>, darks: &mut Queue<DarkOrder<R>>,
 {
     let d = darks.get(found.at);
     let shares = g.active.remaining.min(d.remaining);
-    let other = Party { member: d.member, reference: d.reference };
-    let f = fill_with(g.trades + 1, &g.active, other, shares, found.price, kind_with_dark(g.active.form));
+    let other = Party {
+        member: d.member,
+        reference: d.reference,
+    };
+    let f = fill_with(
+        g.trades + 1,
+        &g.active,
+        other,
+        shares,
+        found.price,
+        kind_with_dark(g.active.form),
+    );
     fills.append(f);
     requeue(darks, found.at, dark_after(&d, shares));
     *g = dark_progress(g, shares, found.price);
@@ -150,7 +213,12 @@ pub fn trade_dark<R: Copy>(g: &mut Progress<R>, darks: &mut Queue<DarkOrder<R>>,
 }
 
 // A trade with the lit order that was found, which is returned as it stood.
-pub fn trade_lit<R: Copy>(g: &mut Progress<R>, lits: &mut Queue<LitOrder<R>>, found: Found, fills: &mut Queue<Fill<R>>) -> LitOrder<R>
+pub fn trade_lit<R: Copy>(
+    g: &mut Progress<R>,
+    lits: &mut Queue<LitOrder<R>>,
+    found: Found,
+    fills: &mut Queue<Fill<R>>,
+) -> LitOrder<R>
     requires at { ⌜ found .at < now lits .len ⌝ }
     requires remaining { ⌜ 0 < now g .active .remaining ⌝ }
     requires trades { ⌜ now g .trades < 1000000 ⌝ }
@@ -165,8 +233,18 @@ pub fn trade_lit<R: Copy>(g: &mut Progress<R>, lits: &mut Queue<LitOrder<R>>, fo
 {
     let l = lits.get(found.at);
     let shares = g.active.remaining.min(l.remaining);
-    let other = Party { member: l.member, reference: l.reference };
-    let f = fill_with(g.trades + 1, &g.active, other, shares, found.price, Kind::SdlLit);
+    let other = Party {
+        member: l.member,
+        reference: l.reference,
+    };
+    let f = fill_with(
+        g.trades + 1,
+        &g.active,
+        other,
+        shares,
+        found.price,
+        Kind::SdlLit,
+    );
     fills.append(f);
     shrink(lits, found.at, lit_after(&l, shares));
     *g = lit_progress(g, shares, found.price);

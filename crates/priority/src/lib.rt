@@ -1,3 +1,3 @@
 // Priorities: which of two resting orders an active order meets first.
-pub mod standing;
 pub mod priority;
+pub mod standing;

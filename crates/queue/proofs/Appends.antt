@@ -19,12 +19,13 @@ appended-none p = record { list = sym (append-nil (queued p)); spare = refl; sam
 
 pub appended-then : {X : Type 0} {p q r : Queue X} (xs ys : List X) → Appended p xs q → Appended q ys r → Appended p (xs ++ ys) r
 appended-then {p} xs ys a b =
-    record
-    { list = b .list ∙ ap (λ zs. zs ++ ys) (a .list) ∙ append-assoc (queued p) xs ys
-    ; spare =
-        b .spare ∙ ap (drop (length ys)) (a .spare) ∙ drop-drop (length ys) (length xs) (spare p)
-        ∙ ap (λ n. drop n (spare p)) (sym (length-append xs ys))
-    ; same = same-then (a .same) (b .same) }
+    record {
+      list = b .list ∙ ap (λ zs. zs ++ ys) (a .list) ∙ append-assoc (queued p) xs ys;
+      spare =
+          b .spare ∙ ap (drop (length ys)) (a .spare) ∙ drop-drop (length ys) (length xs) (spare p)
+          ∙ ap (λ n. drop n (spare p)) (sym (length-append xs ys));
+      same = same-then (a .same) (b .same);
+    }
 
 pub queued-length : {X : Type 0} (p : Queue X) → length (queued p) ≡ p .len
 queued-length p = length-take-le (p .len) (now (p .places)) (p .fits)

@@ -20,16 +20,21 @@ returns-then-not-is-continuous g c =
     let o : Orderings = record { dark = g .D·Priority .order (c .args .p .now .dark); lit = g .L·Priority .order (c .args .p .now .lit) } in
     let f : Facility (g .R .Denot) = record { lot = c .args .core .now .lot; orderings = o; number = g .R·Reference .number } in
     let k : Contents (g .R .Denot) =
-      record { away = c .args .core .now .away; trades = c .args .core .now .trades; darks = queued (c .args .darks .now); lits = queued (c .args .lits .now) } in
+    record { away = c .args .core .now .away; trades = c .args .core .now .trades; darks = queued (c .args .darks .now); lits = queued (c .args .lits .now) } in
     let d = c .args .d .now in
-    record
-    { acted = record
-        { fills = []
-        ; made = appended-none _
-        ; acts =
+    record {
+      acted = record {
+        fills = [];
+        made = appended-none _;
+        acts =
             subst (λ (ds : List (DarkOrder (g .R .Denot))). Acts f (c .args .session) k (Dark d) [] 0 0 (record { away = k .away; trades = k .trades; darks = ds; lits = k .lits }))
-            (sym (c .append .ensures .appended .list)) (joins (sym (c .if-not-is-continuous .ensures tt))) }
-    ; lot = refl; darks = c .append .ensures .appended .same; lits = same-self _; fills = same-self _ }
+            (sym (c .append .ensures .appended .list)) (joins (sym (c .if-not-is-continuous .ensures tt)));
+      };
+      lot = refl;
+      darks = c .append .ensures .appended .same;
+      lits = same-self _;
+      fills = same-self _;
+    }
 
 pub sub-result : need.sub-result
 sub-result g c =
@@ -41,22 +46,27 @@ returns g c =
     let o : Orderings = record { dark = g .D·Priority .order (c .args .p .now .dark); lit = g .L·Priority .order (c .args .p .now .lit) } in
     let f : Facility (g .R .Denot) = record { lot = c .args .core .now .lot; orderings = o; number = g .R·Reference .number } in
     let k : Contents (g .R .Denot) =
-      record { away = c .args .core .now .away; trades = c .args .core .now .trades; darks = queued (c .args .darks .now); lits = queued (c .args .lits .now) } in
+    record { away = c .args .core .now .away; trades = c .args .core .now .trades; darks = queued (c .args .darks .now); lits = queued (c .args .lits .now) } in
     let d = c .args .d .now in
     let t = c .sweep-dark-remaining in
     let is : c .of-quote .result ≡ quote-in k = c .of-quote .ensures ∙ ap (quote-of (k .away)) (c .orders .ensures) in
     let e : Contents (g .R .Denot) = record { away = k .away; trades = t .last .trades; darks = queued (t .last .darks); lits = queued (t .last .lits) } in
     let w : Swept-dark o (quote-in k) (k .away) (k .trades) d (k .darks) (k .lits) (c .args .fills .now) (t .result) e (t .last .fills) =
-      subst
-      (λ (q : Quote).
-        Swept-dark o q (q .away) (k .trades) d (k .darks) (k .lits) (c .args .fills .now) (t .result)
-        (record { away = q .away; trades = t .last .trades; darks = queued (t .last .darks); lits = queued (t .last .lits) }) (t .last .fills))
-      is (t .ensures .swept) in
-    record
-    { acted = record
-        { fills = w .swept .fills
-        ; made = w .swept .made
-        ; acts =
+    subst
+    (λ (q : Quote).
+    Swept-dark o q (q .away) (k .trades) d (k .darks) (k .lits) (c .args .fills .now) (t .result)
+    (record { away = q .away; trades = t .last .trades; darks = queued (t .last .darks); lits = queued (t .last .lits) }) (t .last .fills))
+    is (t .ensures .swept) in
+    record {
+      acted = record {
+        fills = w .swept .fills;
+        made = w .swept .made;
+        acts =
             subst₂ (λ (n : ℕ) (x : Contents (g .R .Denot)). Acts f (c .args .session) k (Dark d) (w .swept .fills) n 0 x)
-            (ap (λ n. d .remaining - n) (sym (w .left))) (sym (w .contents)) (enters (sym (c .if-not-is-continuous .ensures tt)) (w .swept .swept)) }
-    ; lot = refl; darks = t .ensures .darks; lits = t .ensures .lits; fills = w .swept .made .same }
+            (ap (λ n. d .remaining - n) (sym (w .left))) (sym (w .contents)) (enters (sym (c .if-not-is-continuous .ensures tt)) (w .swept .swept));
+      };
+      lot = refl;
+      darks = t .ensures .darks;
+      lits = t .ensures .lits;
+      fills = w .swept .made .same;
+    }

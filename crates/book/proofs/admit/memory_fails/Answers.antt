@@ -23,16 +23,17 @@ first-places-resting-lits-requires g c κs =
 pub are-sound-requires : need.are-sound-requires
 are-sound-requires g c κs =
     let o = c .args in
-    record
-    { lot = c .pre .lot
-    ; darks = omega (arith, ap length (c .first-places-resting-darks .ensures), length-take (o .darks) (o .dark .now), c .pre .darks)
-    ; lits = omega (arith, ap length (c .first-places-resting-lits .ensures), length-take (o .lits) (o .lit .now), c .pre .lits) }
+    record {
+      lot = c .pre .lot;
+      darks = omega (arith, ap length (c .first-places-resting-darks .ensures), length-take (o .darks) (o .dark .now), c .pre .darks);
+      lits = omega (arith, ap length (c .first-places-resting-lits .ensures), length-take (o .lits) (o .lit .now), c .pre .lits);
+    }
 
 pub returns : need.returns
 returns g c =
     let o = c .args in
     let sound = sound-tables (g .R·Reference .number) (o .core .now .lot) (take (o .darks) (o .dark .now)) (take (o .lits) (o .lit .now)) in
     ap not
-    ( c .are-sound .ensures
-      ∙ ap₂ (sound-tables (g .R·Reference .number) (o .core .now .lot)) (c .first-places-resting-darks .ensures) (c .first-places-resting-lits .ensures)
-      ∙ ap (λ t. t && sound) (c .if-not-has-memory .ensures tt) )
+    (c .are-sound .ensures
+    ∙ ap₂ (sound-tables (g .R·Reference .number) (o .core .now .lot)) (c .first-places-resting-darks .ensures) (c .first-places-resting-lits .ensures)
+    ∙ ap (λ t. t && sound) (c .if-not-has-memory .ensures tt))

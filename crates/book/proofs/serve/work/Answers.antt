@@ -22,9 +22,10 @@ settle-in-requires g c κs =
     let lit-was = queued-length (c .args .lits .now) in
     let dark-len = queued-length (t .last .darks) in
     let lit-len = queued-length (t .last .lits) in
-    record
-    { room = omega (arith, count, made, dark-was, lit-was, dark-len, lit-len, c .pre .room, t .ensures .fills .room)
-    ; trades = omega (arith, count, traded, dark-was, lit-was, dark-len, lit-len, c .pre .trades) }
+    record {
+      room = omega (arith, count, made, dark-was, lit-was, dark-len, lit-len, c .pre .room, t .ensures .fills .room);
+      trades = omega (arith, count, traded, dark-was, lit-was, dark-len, lit-len, c .pre .trades);
+    }
 
 pub returns : need.returns
 returns g c =
@@ -33,26 +34,27 @@ returns g c =
     let u = c .settle-in in
     let a = t .ensures .acted in
     let f : Facility (g .R .Denot) =
-      record { lot = o .core .now .lot; orderings = record { dark = g .D·Priority .order (o .p .now .dark); lit = g .L·Priority .order (o .p .now .lit) }; number = g .R·Reference .number } in
+    record { lot = o .core .now .lot; orderings = record { dark = g .D·Priority .order (o .p .now .dark); lit = g .L·Priority .order (o .p .now .lit) }; number = g .R·Reference .number } in
     let mid : Contents (g .R .Denot) =
-      record { away = t .last .core .away; trades = t .last .core .trades; darks = queued (t .last .darks); lits = queued (t .last .lits) } in
+    record { away = t .last .core .away; trades = t .last .core .trades; darks = queued (t .last .darks); lits = queued (t .last .lits) } in
     let end : Contents (g .R .Denot) =
-      record { away = u .last .core .away; trades = u .last .core .trades; darks = queued (u .last .darks); lits = queued (u .last .lits) } in
+    record { away = u .last .core .away; trades = u .last .core .trades; darks = queued (u .last .darks); lits = queued (u .last .lits) } in
     let b : Settled-in f (o .after) mid (t .last .fills) end (u .last .fills) =
-      subst (λ (lot : ℕ). Settled-in (record { lot = lot; orderings = f .orderings; number = f .number }) (o .after) mid (t .last .fills) end (u .last .fills))
-      (t .ensures .lot) (u .ensures .settled) in
-    record
-    { worked = record
-        { mid = mid; first = a .fills; second = b .fills; made = appended-then (a .fills) (b .fills) (a .made) (b .made); acts = a .acts; settling = b .settling }
-    ; made = c .len .ensures
-    ; darksleft = c .len-2 .ensures
-    ; litsleft = c .len-3 .ensures
-    ; lot = u .ensures .lot ∙ t .ensures .lot
-    ; darksroom = u .ensures .darks .room ∙ t .ensures .darks .room
-    ; litsroom = u .ensures .lits .room ∙ t .ensures .lits .room
-    ; darkslender = u .ensures .darks .lender ∙ t .ensures .darks .lender
-    ; litslender = u .ensures .lits .lender ∙ t .ensures .lits .lender
-    ; fillslender = u .ensures .fills .lender ∙ t .ensures .fills .lender }
+    subst (λ (lot : ℕ). Settled-in (record { lot = lot; orderings = f .orderings; number = f .number }) (o .after) mid (t .last .fills) end (u .last .fills))
+    (t .ensures .lot) (u .ensures .settled) in
+    record {
+      worked = record
+          { mid = mid; first = a .fills; second = b .fills; made = appended-then (a .fills) (b .fills) (a .made) (b .made); acts = a .acts; settling = b .settling };
+      made = c .len .ensures;
+      darksleft = c .len-2 .ensures;
+      litsleft = c .len-3 .ensures;
+      lot = u .ensures .lot ∙ t .ensures .lot;
+      darksroom = u .ensures .darks .room ∙ t .ensures .darks .room;
+      litsroom = u .ensures .lits .room ∙ t .ensures .lits .room;
+      darkslender = u .ensures .darks .lender ∙ t .ensures .darks .lender;
+      litslender = u .ensures .lits .lender ∙ t .ensures .lits .lender;
+      fillslender = u .ensures .fills .lender ∙ t .ensures .fills .lender;
+    }
 
 pub cast-result : need.cast-result
 cast-result g c =

@@ -69,9 +69,10 @@ returns-in-Some-best g c =
     let at = c .in-Some-best .at in
     let z : c .loop-i .i ≡ 0 = omega arith in
     let was : Best-from xs 0 (Some at) (pick able wins (drop 0 xs)) =
-      subst₂ (λ (o : Option ℕ) (k : ℕ). Best-from xs k o (pick able wins (drop k xs))) (c .in-Some-best .is) z (c .loop-i .inv .0) in
+    subst₂ (λ (o : Option ℕ) (k : ℕ). Best-from xs k o (pick able wins (drop k xs))) (c .in-Some-best .is) z (c .loop-i .inv .0) in
     let k : at - 0 ≡ at = omega arith in
-    let x = c .index-orders-at .result in
-    ( was .1
-    , (λ d. was .2 d ∙ ap (λ m. found (take m xs) (getD xs at d) (drop (at + 1) xs)) k)
-    , λ d. c .price .ensures ∙ ap (g .T·Offer .costs (c .args .terms .now)) (sym (getD-default xs at d x (was .1) ∙ sym (c .index-orders-at .is))))
+    let x = c .index-orders-at .result in (
+      was .1,
+      (λ d. was .2 d ∙ ap (λ m. found (take m xs) (getD xs at d) (drop (at + 1) xs)) k),
+      λ d. c .price .ensures ∙ ap (g .T·Offer .costs (c .args .terms .now)) (sym (getD-default xs at d x (was .1) ∙ sym (c .index-orders-at .is))),
+    )

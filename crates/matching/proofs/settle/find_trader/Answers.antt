@@ -29,13 +29,14 @@ returns-then-may-trade g c =
     let i = c .loop-i .i in
     let x = c .index-darks-i .result in
     let split : xs ≡ take i xs ++ x ∷ drop (i + 1) xs =
-      sym (take-append-drop i xs)
-      ∙ ap (λ ys. take i xs ++ ys) (drop-more xs i x (c .loop-i-test .taken) ∙ ap (λ y. y ∷ drop (i + 1) xs) (sym (c .index-darks-i .is))) in
-    ( c .loop-i-test .taken
-    , λ d.
-        ap (first p) split
-        ∙ first-here p (take i xs) x (drop (i + 1) xs) (c .loop-i .inv) (sym (c .if-may-trade .ensures tt))
-        ∙ ap (λ y. found (take i xs) y (drop (i + 1) xs)) (c .index-darks-i .is ∙ getD-default xs i x d (c .loop-i-test .taken)) )
+    sym (take-append-drop i xs)
+    ∙ ap (λ ys. take i xs ++ ys) (drop-more xs i x (c .loop-i-test .taken) ∙ ap (λ y. y ∷ drop (i + 1) xs) (sym (c .index-darks-i .is))) in (
+      c .loop-i-test .taken,
+      λ d.
+          ap (first p) split
+          ∙ first-here p (take i xs) x (drop (i + 1) xs) (c .loop-i .inv) (sym (c .if-may-trade .ensures tt))
+          ∙ ap (λ y. found (take i xs) y (drop (i + 1) xs)) (c .index-darks-i .is ∙ getD-default xs i x d (c .loop-i-test .taken)),
+    )
 
 pub returns : need.returns
 unfolding first-to-trade

@@ -16,7 +16,7 @@ loop-other-again g c =
     let i = c .loop-other .other-index in
     let x = c .other-item .result in
     let one : some-in able (drop i xs) ≡ (able x || some-in able (drop (i + 1) xs)) =
-      at-drop-more (some-in able) xs i x (c .loop-other-test .taken) ∙ ap (λ y. able y || some-in able (drop (i + 1) xs)) (sym (c .other-item .is)) in
+    at-drop-more (some-in able) xs i x (c .loop-other-test .taken) ∙ ap (λ y. able y || some-in able (drop (i + 1) xs)) (sym (c .other-item .is)) in
     let fails : able x ≡ false = sym (c .if-meets-dark-order .ensures tt) in
     sym (ap (λ t. t || some-in able (drop (i + 1) xs)) fails) ∙ sym one ∙ c .loop-other .inv
 
@@ -28,11 +28,11 @@ returns-then-meets-dark-order g c =
     let i = c .loop-other .other-index in
     let x = c .other-item .result in
     let one : some-in able (drop i xs) ≡ (able x || some-in able (drop (i + 1) xs)) =
-      at-drop-more (some-in able) xs i x (c .loop-other-test .taken) ∙ ap (λ y. able y || some-in able (drop (i + 1) xs)) (sym (c .other-item .is)) in
+    at-drop-more (some-in able) xs i x (c .loop-other-test .taken) ∙ ap (λ y. able y || some-in able (drop (i + 1) xs)) (sym (c .other-item .is)) in
     let near : c .nearest .result ≡ nearest-lit (c .args .d .now .side) (c .args .lits .now) =
-      c .nearest .ensures ∙ ap (λ (a : Active (g .R .Denot)). nearest-lit (a .side) (c .args .lits .now)) (c .activate-active .ensures) in
+    c .nearest .ensures ∙ ap (λ (a : Active (g .R .Denot)). nearest-lit (a .side) (c .args .lits .now)) (c .activate-active .ensures) in
     let is : some-in able xs ≡ can-trade (c .args .quote .now) (c .args .lits .now) xs (c .args .d .now) =
-      ap₂ (λ (a : Active (g .R .Denot)) (n : ℕ). some-in (may-meet-dark (record { quote = c .args .quote .now; active = a; lit = n })) xs) (c .activate-active .ensures) near in
+    ap₂ (λ (a : Active (g .R .Denot)) (n : ℕ). some-in (may-meet-dark (record { quote = c .args .quote .now; active = a; lit = n })) xs) (c .activate-active .ensures) near in
     let holds : able x ≡ true = sym (c .if-meets-dark-order .ensures tt) in
     sym (one ∙ ap (λ t. t || some-in able (drop (i + 1) xs)) holds) ∙ c .loop-other .inv ∙ is
 
@@ -43,7 +43,7 @@ returns g c =
     let xs = c .args .darks .now in
     let i = c .loop-other .other-index in
     let near : c .nearest .result ≡ nearest-lit (c .args .d .now .side) (c .args .lits .now) =
-      c .nearest .ensures ∙ ap (λ (a : Active (g .R .Denot)). nearest-lit (a .side) (c .args .lits .now)) (c .activate-active .ensures) in
+    c .nearest .ensures ∙ ap (λ (a : Active (g .R .Denot)). nearest-lit (a .side) (c .args .lits .now)) (c .activate-active .ensures) in
     let is : some-in able xs ≡ can-trade (c .args .quote .now) (c .args .lits .now) xs (c .args .d .now) =
-      ap₂ (λ (a : Active (g .R .Denot)) (n : ℕ). some-in (may-meet-dark (record { quote = c .args .quote .now; active = a; lit = n })) xs) (c .activate-active .ensures) near in
+    ap₂ (λ (a : Active (g .R .Denot)) (n : ℕ). some-in (may-meet-dark (record { quote = c .args .quote .now; active = a; lit = n })) xs) (c .activate-active .ensures) near in
     sym (at-drop-all (some-in able) xs i (c .loop-other-test .left)) ∙ c .loop-other .inv ∙ is

@@ -27,17 +27,18 @@ returns g c =
     let d = c .args .d .now in
     let run : Run (g .R .Denot) = record { progress = t .last .g; darks = queued (t .last .darks); lits = queued (t .last .lits) } in
     let was = c .args .fills .now in
-    record
-    { swept = record
-        { run = run
-        ; swept =
+    record {
+      swept = record {
+        run = run;
+        swept =
             subst
             (λ (a : Active (g .R .Denot)). Sweeps o q (start-of (c .args .trades .now) a (queued (c .args .darks .now)) (queued (c .args .lits .now))) was run (t .last .fills))
-            (c .activate .ensures) (t .ensures .sweeps)
-        ; contents =
+            (c .activate .ensures) (t .ensures .sweeps);
+        contents =
             ap (λ (ds : List (DarkOrder (g .R .Denot))). record { away = q .away; trades = t .last .g .trades; darks = ds; lits = queued (t .last .lits) })
-            (c .join .ensures .list ∙ ap (λ x. queued (t .last .darks) ++ dark-left x) (c .keep .ensures))
-        ; left = refl }
-    ; darks = same-then (t .ensures .darks) (c .join .ensures .same)
-    ; lits = t .ensures .lits
+            (c .join .ensures .list ∙ ap (λ x. queued (t .last .darks) ++ dark-left x) (c .keep .ensures));
+        left = refl;
+      };
+      darks = same-then (t .ensures .darks) (c .join .ensures .same);
+      lits = t .ensures .lits;
     }

@@ -27,17 +27,17 @@ returns g c =
     let ds = queued (c .args .darks .now) in
     let ls = queued (c .args .lits .now) in
     let sl : Splits (λ (x : LitOrder (g .R .Denot)). x .price) ls (c .choose-lit .result) (best-lit o q s ls) =
-      subst
-      (λ (xs : List (LitOrder (g .R .Denot))).
-        let t : LitTerms (g .R .Denot) = record { quote = q; active = a } in
-        Splits (price-of-lit t) xs (c .choose-lit .result) (pick (may-meet-lit t) (beats a SdlLit (s .lit) (o .lit) (price-of-lit t) (view-of-lit t)) xs))
-      (c .orders-lit-orders .ensures) (c .choose-lit .ensures) in
+    subst
+    (λ (xs : List (LitOrder (g .R .Denot))).
+    let t : LitTerms (g .R .Denot) = record { quote = q; active = a } in
+    Splits (price-of-lit t) xs (c .choose-lit .result) (pick (may-meet-lit t) (beats a SdlLit (s .lit) (o .lit) (price-of-lit t) (view-of-lit t)) xs))
+    (c .orders-lit-orders .ensures) (c .choose-lit .ensures) in
     let sd : Splits (price-under q) ds (c .choose-dark .result) (best-dark o q s ls ds) =
-      subst₃
-      (λ (xs : List (DarkOrder (g .R .Denot))) (near : ℕ) (kind : Kind).
-        let t : DarkTerms (g .R .Denot) = record { quote = q; active = a; lit = near } in
-        Splits (price-of-dark t) xs (c .choose-dark .result) (pick (may-meet-dark t) (beats a kind (s .dark) (o .dark) (price-of-dark t) (view-of-dark t)) xs))
-      (c .orders-dark-orders .ensures) (c .nearest .ensures ∙ ap (nearest-lit (a .side)) (c .orders-lit-orders .ensures)) (c .kind-with-dark .ensures)
-      (c .choose-dark .ensures) in
+    subst₃
+    (λ (xs : List (DarkOrder (g .R .Denot))) (near : ℕ) (kind : Kind).
+    let t : DarkTerms (g .R .Denot) = record { quote = q; active = a; lit = near } in
+    Splits (price-of-dark t) xs (c .choose-dark .result) (pick (may-meet-dark t) (beats a kind (s .dark) (o .dark) (price-of-dark t) (view-of-dark t)) xs))
+    (c .orders-dark-orders .ensures) (c .nearest .ensures ∙ ap (nearest-lit (a .side)) (c .orders-lit-orders .ensures)) (c .kind-with-dark .ensures)
+    (c .choose-dark .ensures) in
     subst (λ (n : Next). Finds q ds ls n (choice o q (record { progress = s; darks = ds; lits = ls }))) (sym (c .nearer .ensures))
     (finds q (a .side) ds ls (c .choose-lit .result) (c .choose-dark .result) (best-lit o q s ls) (best-dark o q s ls ds) sl sd)

@@ -61,13 +61,14 @@ loop-g-again-in-Dark g c =
     let r′ : Run (g .R .Denot) = record { progress = t .last .g; darks = queued (t .last .darks); lits = r .lits } in
     let is : r′ ≡ after-dark q r (take at xs) d (drop (at + 1) xs) = same-run r′ (after-dark q r (take at xs) d (drop (at + 1) xs)) progress-is (t .ensures .list) refl in
     let m : Appended (l .fills) (dark-fill (price-under q d) (l .g) d ∷ []) (t .last .fills) =
-      subst (λ (p : ℕ). Appended (l .fills) (dark-fill p (l .g) d ∷ []) (t .last .fills)) price-is (t .ensures .fills) in
-    let trades : t .last .g .trades ≡ l .g .trades + 1 = ap (λ (x : Progress (g .R .Denot)). x .trades) progress-is in
-    ( one-dark o q r₀ r r′ (take at xs) d (drop (at + 1) xs) was (l .fills) (t .last .fills) chosen is m (inv .0)
-    , omega (arith, inv .1, t .ensures .more, t .ensures .spends, c .loop-g-test .taken)
-    , omega (arith, inv .2, t .ensures .more, trades)
-    , same-then (inv .3) (t .ensures .darks)
-    , inv .4 )
+    subst (λ (p : ℕ). Appended (l .fills) (dark-fill p (l .g) d ∷ []) (t .last .fills)) price-is (t .ensures .fills) in
+    let trades : t .last .g .trades ≡ l .g .trades + 1 = ap (λ (x : Progress (g .R .Denot)). x .trades) progress-is in (
+      one-dark o q r₀ r r′ (take at xs) d (drop (at + 1) xs) was (l .fills) (t .last .fills) chosen is m (inv .0),
+      omega (arith, inv .1, t .ensures .more, t .ensures .spends, c .loop-g-test .taken),
+      omega (arith, inv .2, t .ensures .more, trades),
+      same-then (inv .3) (t .ensures .darks),
+      inv .4,
+    )
 
 pub loop-g-again : need.loop-g-again
 loop-g-again g c =
@@ -92,10 +93,11 @@ loop-g-again g c =
     let r′ : Run (g .R .Denot) = record { progress = t .last .g; darks = r .darks; lits = queued (t .last .lits) } in
     let is : r′ ≡ after-lit r (take at xs) d (drop (at + 1) xs) = same-run r′ (after-lit r (take at xs) d (drop (at + 1) xs)) progress-is refl (t .ensures .list) in
     let m : Appended (l .fills) (lit-fill (d .price) (l .g) d ∷ []) (t .last .fills) =
-      subst (λ (p : ℕ). Appended (l .fills) (lit-fill p (l .g) d ∷ []) (t .last .fills)) price-is (t .ensures .fills) in
-    let trades : t .last .g .trades ≡ l .g .trades + 1 = ap (λ (x : Progress (g .R .Denot)). x .trades) progress-is in
-    ( one-lit o q r₀ r r′ (take at xs) d (drop (at + 1) xs) was (l .fills) (t .last .fills) chosen is m (inv .0)
-    , omega (arith, inv .1, t .ensures .more, t .ensures .spends, c .loop-g-test .taken)
-    , omega (arith, inv .2, t .ensures .more, trades)
-    , inv .3
-    , same-then (inv .4) (t .ensures .lits) )
+    subst (λ (p : ℕ). Appended (l .fills) (lit-fill p (l .g) d ∷ []) (t .last .fills)) price-is (t .ensures .fills) in
+    let trades : t .last .g .trades ≡ l .g .trades + 1 = ap (λ (x : Progress (g .R .Denot)). x .trades) progress-is in (
+      one-lit o q r₀ r r′ (take at xs) d (drop (at + 1) xs) was (l .fills) (t .last .fills) chosen is m (inv .0),
+      omega (arith, inv .1, t .ensures .more, t .ensures .spends, c .loop-g-test .taken),
+      omega (arith, inv .2, t .ensures .more, trades),
+      inv .3,
+      same-then (inv .4) (t .ensures .lits),
+    )

@@ -16,12 +16,12 @@ returns-then-d-gt0 g c =
     let at = c .args .at in
     let d = c .args .d in
     let lt : at < length q = omega (arith, c .pre, queued-length (c .args .darks .now)) in
-    record
-    { list =
-        c .move-to-end .ensures .list
-        ∙ ap (to-end at) (c .replace .ensures .list)
-        ∙ replaced-to-end q at d lt
-        ∙ ap (λ ys. take at q ++ (drop (at + 1) q ++ ys)) (sym (cond-false (eqb (d .remaining) 0) [] (d ∷ []) (ne-eqb (d .remaining) 0 (λ e. omega arith))))
-    ; len = omega (arith, c .move-to-end .ensures .len, c .replace .ensures .len, c .if-d-gt0 .taken)
-    ; same = same-then (c .replace .ensures .same) (c .move-to-end .ensures .same)
+    record {
+      list =
+          c .move-to-end .ensures .list
+          ∙ ap (to-end at) (c .replace .ensures .list)
+          ∙ replaced-to-end q at d lt
+          ∙ ap (λ ys. take at q ++ (drop (at + 1) q ++ ys)) (sym (cond-false (eqb (d .remaining) 0) [] (d ∷ []) (ne-eqb (d .remaining) 0 (λ e. omega arith))));
+      len = omega (arith, c .move-to-end .ensures .len, c .replace .ensures .len, c .if-d-gt0 .taken);
+      same = same-then (c .replace .ensures .same) (c .move-to-end .ensures .same);
     }

@@ -15,11 +15,12 @@ returns g c =
     let lt : c .args .i < length (queued q) = omega (arith, c .pre, length-take-le (q .len) (q .places .now) (q .fits)) in
     record {
       list =
-        c .append .ensures .appended .list
-        ∙ ap (λ ys. ys ++ x ∷ []) (c .remove-x .ensures .list)
-        ∙ ap (λ ys. without (c .args .i) (queued q) ++ ys) (alone (queued q) (c .args .i) x lt (c .remove-x .ensures .value));
+          c .append .ensures .appended .list
+          ∙ ap (λ ys. ys ++ x ∷ []) (c .remove-x .ensures .list)
+          ∙ ap (λ ys. without (c .args .i) (queued q) ++ ys) (alone (queued q) (c .args .i) x lt (c .remove-x .ensures .value));
       len = omega (arith, c .append .ensures .len, c .remove-x .ensures .len);
-      same = record
-        { room = c .append .ensures .appended .same .room ∙ c .remove-x .ensures .same .room
-        ; lender = c .append .ensures .appended .same .lender ∙ c .remove-x .ensures .same .lender };
+      same = record {
+        room = c .append .ensures .appended .same .room ∙ c .remove-x .ensures .same .room;
+        lender = c .append .ensures .appended .same .lender ∙ c .remove-x .ensures .same .lender;
+      };
     }
