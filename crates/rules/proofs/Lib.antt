@@ -11,3 +11,4 @@ pub mod Played
 pub mod Prices
 pub mod Reach
 pub mod Settled
+pub mod Setups

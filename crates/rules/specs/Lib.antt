@@ -1,4 +1,5 @@
 pub mod Cases
 pub mod Choices
+pub mod Examples
 pub mod Needs
 pub mod Play

@@ -1,0 +1,3 @@
+pub mod Input
+pub mod Prints
+pub mod Runs
