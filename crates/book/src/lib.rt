@@ -1,4 +1,6 @@
 // One book for one security and one day: the calls, what refuses them, and what they do.
+#![tactic(auto)]
+
 pub mod act;
 pub mod admit;
 pub mod book;

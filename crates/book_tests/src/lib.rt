@@ -1,4 +1,6 @@
 // Small market stories, each with its outcome worked by hand from the rules of the book.
+#![tactic(auto)]
+
 #[cfg(test)]
 mod answers;
 #[cfg(test)]

@@ -1,4 +1,6 @@
 // Worked examples of the book, each proved to come out as it is stated, and what holds of every book.
+#![tactic(auto)]
+
 ghost use Rattle.rules.specs.Cases.{TwelveCases};
 ghost use Rattle.rules.specs.Choices.{ChoiceIsBest};
 ghost use Rattle.rules.specs.Examples.{SetupsComeOut};

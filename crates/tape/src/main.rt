@@ -1,4 +1,6 @@
 // Asked for a worked example by its digit, prints the trades that the engine makes of it.
+#![tactic(auto)]
+
 mod dollars;
 mod input;
 mod run;

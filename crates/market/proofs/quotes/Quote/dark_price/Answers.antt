@@ -10,6 +10,6 @@ returns-then-is-locked-or-crossed c = sym (cond-true (locked_or_crossed c.args.s
 pub returns : goal.returns
 unfolding dark_price
 returns c =
-    c.cap-price.ensures
+    c.cap_price.ensures
     ∙ ap (capped c.args.side c.args.cap) c.pegged.ensures
-    ∙ sym (cond-false (locked_or_crossed c.args.self.now) _ _ (sym c.if-is-locked-or-crossed.ensures))
+    ∙ sym (cond-false (locked_or_crossed c.args.self.now) _ _ (sym c.if-is_locked_or_crossed.ensures))
