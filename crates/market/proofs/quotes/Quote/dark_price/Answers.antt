@@ -3,9 +3,9 @@ use Rattle.std.proofs.lemmas.Bool.{cond-true, cond-false}
 use Rattle.market.specs.Quotes.{dark_price, locked_or_crossed, capped}
 use Rattle.market.proofs.quotes.Quote.dark_price.Goals as goal
 
-pub returns-then-is-locked-or-crossed : goal.returns-then-is-locked-or-crossed
+pub returns-then-is_locked_or_crossed : goal.returns-then-is_locked_or_crossed
 unfolding dark_price
-returns-then-is-locked-or-crossed c = sym (cond-true (locked_or_crossed c.args.self.now) _ _ (sym c.if-is-locked-or-crossed.ensures))
+returns-then-is_locked_or_crossed c = sym (cond-true (locked_or_crossed c.args.self.now) _ _ (sym c.if-is_locked_or_crossed.ensures))
 
 pub returns : goal.returns
 unfolding dark_price
