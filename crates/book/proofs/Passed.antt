@@ -30,13 +30,13 @@ long_enough m e =
     let s = and_parts (eqb m.lits 256) (leb 513 m.fills) r.1 in
     record { darks = eqb-true m.darks 256 r.0; lits = eqb-true m.lits 256 s.0; fills = leb-true 513 m.fills s.1 }
 
-not-false : (t : Bool) → not t ≡ false → t ≡ true
-not-false true e = refl
-not-false false e = absurd (let z : ◌≡◌ {A = ℕ} 0 1 = cc in omega arith)
+not_false : (t : Bool) → not t ≡ false → t ≡ true
+not_false true e = refl
+not_false false e = absurd (let z : ◌≡◌ {A = ℕ} 0 1 = cc in omega arith)
 
 -- a memory that does not fail is long enough, and what rests in it could rest
 pub memory_good : (m : Memory) (sound : Bool) → not (enough_memory m && sound) ≡ false → LongEnough m × (sound ≡ true)
-memory_good m sound e = let p = and_parts (enough_memory m) sound (not-false _ e) in (long_enough m p.0, p.1)
+memory_good m sound e = let p = and_parts (enough_memory m) sound (not_false _ e) in (long_enough m p.0, p.1)
 
 -- every check passes where no ground is the first to hold
 passes : (t : Bool) (g : Ground) (rest : Option Ground) → cond t (Some g) rest ≡ None → (t ≡ false) × (rest ≡ None)
@@ -106,9 +106,9 @@ module _ {R : Type 0} (number : R → ℕ) (lot : ℕ) (s : State R) (m : Memory
   placed : (x : Call R) (q : Request R) → request_of x ≡ Some q → sound_tables number lot s.contents.darks s.contents.lits ≡ true → member_fails x ≡ false →
       full_fails s.contents x ≡ false → HasPlace q (length s.contents.darks) 256 (length s.contents.lits) 256
   placed (call.Quote w) q e k v f = let i : request.Quote w ≡ q = cc in subst (λ (x : Request R). HasPlace x (length s.contents.darks) 256 (length s.contents.lits) 256) i tt
-  placed (call.Dark d) q e k v f = from_dark _ 256 _ 256 (dark_of d) q e (dark_place number lot s.contents.darks s.contents.lits k d.member (not-false _ v) f)
+  placed (call.Dark d) q e k v f = from_dark _ 256 _ 256 (dark_of d) q e (dark_place number lot s.contents.darks s.contents.lits k d.member (not_false _ v) f)
   placed (call.Sdl d) q e k v f = from_sdl _ 256 _ 256 (sdl_of d) q e
-  placed (call.Lit l) q e k v f = from_lit _ 256 _ 256 (lit_of l) q e (lit_place number lot s.contents.darks s.contents.lits k l.member (not-false _ v) f)
+  placed (call.Lit l) q e k v f = from_lit _ 256 _ 256 (lit_of l) q e (lit_place number lot s.contents.darks s.contents.lits k l.member (not_false _ v) f)
   placed call.Start q e k v f = let i : request.Start ≡ q = cc in subst (λ (x : Request R). HasPlace x (length s.contents.darks) 256 (length s.contents.lits) 256) i tt
 
   pub passed : (x : Call R) (q : Request R) → ground_under number lot s m x ≡ None → request_of x ≡ Some q → Passed s m q

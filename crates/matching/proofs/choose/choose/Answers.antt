@@ -21,7 +21,7 @@ loop-i-preserved-in-Some g c =
     let x = c.index-orders-i.result in
     let was : BestFrom xs i (Some c.in-Some.j) (pick able wins (drop i xs)) = subst (λ (o : Option ℕ). BestFrom xs i o (pick able wins (drop i xs))) c.in-Some.is inv.0 in
     still_best able wins xs i x c.loop-i-test.true inv.1 c.index-orders-i.is c.in-Some.j c.index-orders-j.result c.index-orders-j.is
-    (sym c.if-may-be-met.ensures) (sym c.beats.ensures ∙ c.if-beats.true) was
+    (sym c.if-may_be_met.ensures) (sym c.beats.ensures ∙ c.if-beats.true) was
 
 pub loop-i-preserved-in-Some-2 : goal.loop-i-preserved-in-Some-2
 loop-i-preserved-in-Some-2 g c =
@@ -33,7 +33,7 @@ loop-i-preserved-in-Some-2 g c =
     let x = c.index-orders-i.result in
     let was : BestFrom xs i (Some c.in-Some.j) (pick able wins (drop i xs)) = subst (λ (o : Option ℕ). BestFrom xs i o (pick able wins (drop i xs))) c.in-Some.is inv.0 in
     takes_over able wins xs i x c.loop-i-test.true inv.1 c.index-orders-i.is c.in-Some.j c.index-orders-j.result c.index-orders-j.is
-    (sym c.if-may-be-met.ensures) (sym c.beats.ensures ∙ c.if-beats.false) was
+    (sym c.if-may_be_met.ensures) (sym c.beats.ensures ∙ c.if-beats.false) was
 
 pub loop-i-preserved-in-None : goal.loop-i-preserved-in-None
 loop-i-preserved-in-None g c =
@@ -44,7 +44,7 @@ loop-i-preserved-in-None g c =
     let inv = c.loop-i.invariant in
     let x = c.index-orders-i.result in
     let was : BestFrom xs i None (pick able wins (drop i xs)) = subst (λ (o : Option ℕ). BestFrom xs i o (pick able wins (drop i xs))) c.in-None.is inv.0 in
-    first_able able wins xs i x c.loop-i-test.true inv.1 c.index-orders-i.is (sym c.if-may-be-met.ensures) was
+    first_able able wins xs i x c.loop-i-test.true inv.1 c.index-orders-i.is (sym c.if-may_be_met.ensures) was
 
 pub loop-i-preserved : goal.loop-i-preserved
 loop-i-preserved g c =
@@ -54,7 +54,7 @@ loop-i-preserved g c =
     let i = c.loop-i.i in
     let inv = c.loop-i.invariant in
     let x = c.index-orders-i.result in
-    passed_over able wins xs i x c.loop-i-test.true inv.1 c.index-orders-i.is c.loop-i.best (sym c.if-may-be-met.ensures) inv.0
+    passed_over able wins xs i x c.loop-i-test.true inv.1 c.index-orders-i.is c.loop-i.best (sym c.if-may_be_met.ensures) inv.0
 
 pub returns-in-Some-best : goal.returns-in-Some-best
 returns-in-Some-best g c =

@@ -6,22 +6,22 @@ pub returns-in-Small : goal.returns-in-Small
 unfolding in_bounds
 returns-in-Small g c = search rules
 
-pub returns-then-is-within : goal.returns-then-is-within
+pub returns-then-is_within : goal.returns-then-is_within
 unfolding in_bounds
-returns-then-is-within g c = search rules
+returns-then-is_within g c = search rules
 
-pub returns-else-is-within : goal.returns-else-is-within
+pub returns-else-is_within : goal.returns-else-is_within
 unfolding in_bounds
-returns-else-is-within g c = search rules
+returns-else-is_within g c = search rules
 
 pub returns-in-Large : goal.returns-in-Large
 unfolding in_bounds
 returns-in-Large g c = search rules
 
-pub returns-then-is-within-2 : goal.returns-then-is-within-2
+pub returns-then-is_within-2 : goal.returns-then-is_within-2
 unfolding in_bounds
-returns-then-is-within-2 g c = search rules
+returns-then-is_within-2 g c = search rules
 
-pub returns-else-is-within-2 : goal.returns-else-is-within-2
+pub returns-else-is_within-2 : goal.returns-else-is_within-2
 unfolding in_bounds
-returns-else-is-within-2 g c = search rules
+returns-else-is_within-2 g c = search rules

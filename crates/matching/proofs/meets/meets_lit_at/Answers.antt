@@ -5,7 +5,7 @@ use Rattle.matching.proofs.meets.meets_lit_at.Goals as goal
 
 pub returns-in-Sdl : goal.returns-in-Sdl
 unfolding meets_lit
-returns-in-Sdl g c = c.sdl-lit.ensures ∙ sym (ap (λ (f : Form). meets_lit f c.args.t.now c.args.price) c.in-Sdl.is)
+returns-in-Sdl g c = c.sdl_lit.ensures ∙ sym (ap (λ (f : Form). meets_lit f c.args.t.now c.args.price) c.in-Sdl.is)
 
 pub returns-in-Dark : goal.returns-in-Dark
 unfolding meets_lit

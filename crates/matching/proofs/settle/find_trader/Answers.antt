@@ -15,11 +15,11 @@ loop-i-preserved g c =
     let i = c.loop-i.i in
     let x = c.index-darks-i.result in
     let e : take (i + 1) xs ≡ take i xs ++ x ∷ [] = take_more xs i x c.loop-i-test.true ∙ ap (λ y. take i xs ++ y ∷ []) (sym c.index-darks-i.is) in
-    subst (λ (ys : List (DarkOrder g.row.R.Denot)). All P ys) (sym e) (All-append P (take i xs) (x ∷ []) c.loop-i.invariant (sym c.if-may-trade.ensures, tt))
+    subst (λ (ys : List (DarkOrder g.row.R.Denot)). All P ys) (sym e) (All-append P (take i xs) (x ∷ []) c.loop-i.invariant (sym c.if-may_trade.ensures, tt))
 
-pub returns-then-may-trade : goal.returns-then-may-trade
+pub returns-then-may_trade : goal.returns-then-may_trade
 unfolding first_to_trade
-returns-then-may-trade g c =
+returns-then-may_trade g c =
     let p = can_trade c.args.quote.now c.args.lits.now c.args.darks.now in
     let xs = c.args.darks.now in
     let i = c.loop-i.i in
@@ -30,7 +30,7 @@ returns-then-may-trade g c =
       c.loop-i-test.true,
       λ d.
           ap (first p) split
-          ∙ first_here p (take i xs) x (drop (i + 1) xs) c.loop-i.invariant (sym c.if-may-trade.ensures)
+          ∙ first_here p (take i xs) x (drop (i + 1) xs) c.loop-i.invariant (sym c.if-may_trade.ensures)
           ∙ ap (λ y. found (take i xs) y (drop (i + 1) xs)) (c.index-darks-i.is ∙ get_or_default xs i x d c.loop-i-test.true),
     )
 

@@ -14,12 +14,12 @@ loop-other-preserved g c =
     let x = c.other-item.result in
     let one : some_in able (drop i xs) ≡ (able x || some_in able (drop (i + 1) xs)) =
     at_drop_more (some_in able) xs i x c.loop-other-test.true ∙ ap (λ y. able y || some_in able (drop (i + 1) xs)) (sym c.other-item.is) in
-    let fails : able x ≡ false = sym c.if-meets-dark-order.ensures in
+    let fails : able x ≡ false = sym c.if-meets_dark_order.ensures in
     sym (ap (λ t. t || some_in able (drop (i + 1) xs)) fails) ∙ sym one ∙ c.loop-other.invariant
 
-pub returns-then-meets-dark-order : goal.returns-then-meets-dark-order
+pub returns-then-meets_dark_order : goal.returns-then-meets_dark_order
 unfolding can_trade
-returns-then-meets-dark-order g c =
+returns-then-meets_dark_order g c =
     let able = may_meet_dark (record { quote = c.args.quote.now; active = c.activate-active.result; lit = c.nearest.result }) in
     let xs = c.args.darks.now in
     let i = c.loop-other.other-index in
@@ -30,7 +30,7 @@ returns-then-meets-dark-order g c =
     c.nearest.ensures ∙ ap (λ (a : Active g.row.R.Denot). nearest_lit a.side c.args.lits.now) c.activate-active.ensures in
     let is : some_in able xs ≡ can_trade c.args.quote.now c.args.lits.now xs c.args.d.now =
     ap₂ (λ (a : Active g.row.R.Denot) (n : ℕ). some_in (may_meet_dark (record { quote = c.args.quote.now; active = a; lit = n })) xs) c.activate-active.ensures near in
-    let holds : able x ≡ true = sym c.if-meets-dark-order.ensures in
+    let holds : able x ≡ true = sym c.if-meets_dark_order.ensures in
     sym (one ∙ ap (λ t. t || some_in able (drop (i + 1) xs)) holds) ∙ c.loop-other.invariant ∙ is
 
 pub returns : goal.returns

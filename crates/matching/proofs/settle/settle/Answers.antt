@@ -15,8 +15,8 @@ use Rattle.matching.proofs.settle.settle.Goals as goal
 pub loop-at-init : goal.loop-at-init
 loop-at-init g c = (begins _ _ _, omega arith, omega arith, same_self _, same_self _)
 
-pub returns-in-default : goal.returns-in-default
-returns-in-default g c =
+pub returns-in_default : goal.returns-in_default
+returns-in_default g c =
     let o : Orderings = record { dark = g.D.Priority.order c.args.p.now.dark; lit = g.L.Priority.order c.args.p.now.lit } in
     let l = c.loop-at in
     let b : Contents g.row.R.Denot = record { away = c.args.away; trades = l.trades; darks = queued l.darks; lits = queued l.lits } in
@@ -24,7 +24,7 @@ returns-in-default g c =
     let none : first_to_trade (quote_in b) b.lits b.darks ≡ nobody =
     subst₃ (λ (q : Quote) (ls : List (LitOrder g.row.R.Denot)) (ds : List (DarkOrder g.row.R.Denot)). first_to_trade q ls ds ≡ nobody)
     (c.of-quote.ensures ∙ ap (quote_of c.args.away) c.orders.ensures) c.orders-in-loop-at.ensures c.orders-in-loop-at-2.ensures
-    c.in-default.ensures in
+    c.in_default.ensures in
     record { settled = stops o c₀ b c.args.fills.now l.fills none l.invariant.0; darks = l.invariant.3; lits = l.invariant.4 }
 
 pub loop-at-smaller : goal.loop-at-smaller
@@ -32,7 +32,7 @@ loop-at-smaller g c =
     let o : Orderings = record { dark = g.D.Priority.order c.args.p.now.dark; lit = g.L.Priority.order c.args.p.now.lit } in
     let l = c.loop-at in
     let b : Contents g.row.R.Denot = record { away = c.args.away; trades = l.trades; darks = queued l.darks; lits = queued l.lits } in
-    let t = c.sweep-dark in
+    let t = c.sweep_dark in
     let at = c.in-Some.at in
     let d = c.remove-d.result in
     let k =
@@ -56,7 +56,7 @@ loop-at-preserved g c =
     let o : Orderings = record { dark = g.D.Priority.order c.args.p.now.dark; lit = g.L.Priority.order c.args.p.now.lit } in
     let l = c.loop-at in
     let b : Contents g.row.R.Denot = record { away = c.args.away; trades = l.trades; darks = queued l.darks; lits = queued l.lits } in
-    let t = c.sweep-dark in
+    let t = c.sweep_dark in
     let at = c.in-Some.at in
     let d = c.remove-d.result in
     let k =

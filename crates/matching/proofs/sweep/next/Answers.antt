@@ -29,13 +29,13 @@ returns g c =
     (λ (xs : List (LitOrder g.row.R.Denot)).
     let t : LitTerms g.row.R.Denot = record { quote = q; active = a } in
     Splits (price_of_lit t) xs c.choose-lit.result (pick (may_meet_lit t) (beats a SdlLit s.lit o.lit (price_of_lit t) (view_of_lit t)) xs))
-    c.orders-lit-orders.ensures c.choose-lit.ensures in
+    c.orders-lit_orders.ensures c.choose-lit.ensures in
     let sd : Splits (price_under q) ds c.choose-dark.result (best_dark o q s ls ds) =
     subst₃
     (λ (xs : List (DarkOrder g.row.R.Denot)) (near : ℕ) (kind : Kind).
     let t : DarkTerms g.row.R.Denot = record { quote = q; active = a; lit = near } in
     Splits (price_of_dark t) xs c.choose-dark.result (pick (may_meet_dark t) (beats a kind s.dark o.dark (price_of_dark t) (view_of_dark t)) xs))
-    c.orders-dark-orders.ensures (c.nearest.ensures ∙ ap (nearest_lit a.side) c.orders-lit-orders.ensures) c.kind-with-dark.ensures
+    c.orders-dark_orders.ensures (c.nearest.ensures ∙ ap (nearest_lit a.side) c.orders-lit_orders.ensures) c.kind_with_dark.ensures
     c.choose-dark.ensures in
     subst (λ (n : Next). Finds q ds ls n (choice o q (record { progress = s; darks = ds; lits = ls }))) (sym c.nearer.ensures)
     (finds q a.side ds ls c.choose-lit.result c.choose-dark.result (best_lit o q s ls) (best_dark o q s ls ds) sl sd)

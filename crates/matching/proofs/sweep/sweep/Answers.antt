@@ -43,7 +43,7 @@ loop-g-preserved-in-Dark g c =
     let r₀ : Run g.row.R.Denot = record { progress = c.args.g.now; darks = queued c.args.darks.now; lits = queued c.args.lits.now } in
     let r : Run g.row.R.Denot = record { progress = l.g; darks = queued l.darks; lits = queued l.lits } in
     let was = c.args.fills.now in
-    let t = c.trade-dark in
+    let t = c.trade_dark in
     let at = c.in-Dark.found.at in
     let price = c.in-Dark.found.price in
     let f = c.in-Dark.ensures in
@@ -75,7 +75,7 @@ loop-g-preserved g c =
     let r₀ : Run g.row.R.Denot = record { progress = c.args.g.now; darks = queued c.args.darks.now; lits = queued c.args.lits.now } in
     let r : Run g.row.R.Denot = record { progress = l.g; darks = queued l.darks; lits = queued l.lits } in
     let was = c.args.fills.now in
-    let t = c.trade-lit in
+    let t = c.trade_lit in
     let at = c.in-Lit.found.at in
     let price = c.in-Lit.found.price in
     let f = c.in-Lit.ensures in

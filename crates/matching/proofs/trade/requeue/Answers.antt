@@ -13,10 +13,10 @@ returns-then-d-gt0 g c =
     let lt : at < length q = omega (arith, c.requires, queued_length c.args.darks.now) in
     record {
       list =
-          c.move-to-end.ensures.list
+          c.move_to_end.ensures.list
           ∙ ap (to_end at) c.replace.ensures.list
           ∙ replaced_to_end q at d lt
           ∙ ap (λ ys. take at q ++ (drop (at + 1) q ++ ys)) (sym (cond-false (eqb d.remaining 0) [] (d ∷ []) (ne_eqb d.remaining 0 (λ e. omega arith))));
-      len = omega (arith, c.move-to-end.ensures.len, c.replace.ensures.len, c.if-d-gt0.true);
-      same = same_then c.replace.ensures.same c.move-to-end.ensures.same;
+      len = omega (arith, c.move_to_end.ensures.len, c.replace.ensures.len, c.if-d-gt0.true);
+      same = same_then c.replace.ensures.same c.move_to_end.ensures.same;
     }
