@@ -12,8 +12,8 @@ use Rattle.book.specs.Grounds.{Facility}
 use Rattle.book.specs.Steps.{Acts, joins, enters}
 use Rattle.book.proofs.act.enter.Goals as goal
 
-pub returns-then-not-is-continuous : goal.returns-then-not-is-continuous
-returns-then-not-is-continuous g c =
+pub returns-then-not-is_continuous : goal.returns-then-not-is_continuous
+returns-then-not-is_continuous g c =
     let o : Orderings = record { dark = g.D.Priority.order c.args.p.now.dark; lit = g.L.Priority.order c.args.p.now.lit } in
     let f : Facility g.row.R.Denot = record { lot = c.args.core.now.lot; orderings = o; number = g.R.Reference.number } in
     let k : Contents g.row.R.Denot =
@@ -25,7 +25,7 @@ returns-then-not-is-continuous g c =
         made = appended_none _;
         acts =
             subst (λ (ds : List (DarkOrder g.row.R.Denot)). Acts f c.args.session k (Dark d) [] 0 0 (record { away = k.away; trades = k.trades; darks = ds; lits = k.lits }))
-            (sym c.append.ensures.appended.list) (joins (sym c.if-not-is-continuous.ensures));
+            (sym c.append.ensures.appended.list) (joins (sym c.if-not-is_continuous.ensures));
       };
       lot = refl;
       darks = c.append.ensures.appended.same;
@@ -33,9 +33,9 @@ returns-then-not-is-continuous g c =
       fills = same_self _;
     }
 
-pub overflow-sub-result : goal.overflow-sub-result
-overflow-sub-result g c =
-    let w = c.sweep-dark-remaining.ensures.swept in
+pub overflow_sub-result : goal.overflow_sub-result
+overflow_sub-result g c =
+    let w = c.sweep_dark-remaining.ensures.swept in
     omega (arith, w.left, swept_less w.swept.swept)
 
 pub returns : goal.returns
@@ -45,7 +45,7 @@ returns g c =
     let k : Contents g.row.R.Denot =
     record { away = c.args.core.now.away; trades = c.args.core.now.trades; darks = queued c.args.darks.now; lits = queued c.args.lits.now } in
     let d = c.args.d.now in
-    let t = c.sweep-dark-remaining in
+    let t = c.sweep_dark-remaining in
     let is : c.of-quote.result ≡ quote_in k = c.of-quote.ensures ∙ ap (quote_of k.away) c.orders.ensures in
     let e : Contents g.row.R.Denot = record { away = k.away; trades = t.new.trades; darks = queued t.new.darks; lits = queued t.new.lits } in
     let w : SweptDark o (quote_in k) k.away k.trades d k.darks k.lits c.args.fills.now t.result e t.new.fills =
@@ -60,7 +60,7 @@ returns g c =
         made = w.swept.made;
         acts =
             subst₂ (λ (n : ℕ) (x : Contents g.row.R.Denot). Acts f c.args.session k (Dark d) w.swept.fills n 0 x)
-            (ap (λ n. d.remaining - n) (sym w.left)) (sym w.contents) (enters (sym c.if-not-is-continuous.ensures) w.swept.swept);
+            (ap (λ n. d.remaining - n) (sym w.left)) (sym w.contents) (enters (sym c.if-not-is_continuous.ensures) w.swept.swept);
       };
       lot = refl;
       darks = t.ensures.darks;

@@ -10,10 +10,10 @@ use Rattle.book.specs.Grounds.{Facility}
 use Rattle.book.specs.Steps.{active_sdl, seeks}
 use Rattle.book.proofs.act.seek.Goals as goal
 
-pub overflow-sub-result : goal.overflow-sub-result
-overflow-sub-result g c =
+pub overflow_sub-result : goal.overflow_sub-result
+overflow_sub-result g c =
     let l = swept_less c.sweep.ensures.sweeps.swept in
-    let a = ap (λ (x : Active g.row.R.Denot). x.remaining) c.activate-sdl.ensures in
+    let a = ap (λ (x : Active g.row.R.Denot). x.remaining) c.activate_sdl.ensures in
     omega (arith, l, a)
 
 pub returns : goal.returns
@@ -28,7 +28,7 @@ returns g c =
     let run : Run g.row.R.Denot = record { progress = t.new.g; darks = queued t.new.darks; lits = queued t.new.lits } in
     let w : Sweeps o (quote_in k) (start_of k.trades (active_sdl f.lot (quote_in k) x) k.darks k.lits) c.args.fills.now run t.new.fills =
     subst₂ (λ (q : Quote) (a : Active g.row.R.Denot). Sweeps o q (start_of k.trades a k.darks k.lits) c.args.fills.now run t.new.fills)
-    is (c.activate-sdl.ensures ∙ ap (λ q. active_sdl f.lot q x) is) t.ensures.sweeps in
+    is (c.activate_sdl.ensures ∙ ap (λ q. active_sdl f.lot q x) is) t.ensures.sweeps in
     record {
       acted = λ s. record { fills = w.fills; made = w.made; acts = seeks w.swept };
       lot = refl;

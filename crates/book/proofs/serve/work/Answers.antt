@@ -7,8 +7,8 @@ use Rattle.book.specs.Steps.{SettledIn}
 use Rattle.book.proofs.Counts.{acts_count, acts_trades, settling_count}
 use Rattle.book.proofs.serve.work.Goals as goal
 
-pub settle-in-requires : goal.settle-in-requires
-settle-in-requires g c =
+pub settle_in-requires : goal.settle_in-requires
+settle_in-requires g c =
     let t = c.act-traded in
     let a = t.ensures.acted in
     let count = acts_count a.acts in
@@ -27,7 +27,7 @@ pub returns : goal.returns
 returns g c =
     let o = c.args in
     let t = c.act-traded in
-    let u = c.settle-in in
+    let u = c.settle_in in
     let a = t.ensures.acted in
     let f : Facility g.row.R.Denot =
     record { lot = o.core.now.lot; orderings = record { dark = g.D.Priority.order o.p.now.dark; lit = g.L.Priority.order o.p.now.lit }; number = g.R.Reference.number } in
@@ -52,10 +52,10 @@ returns g c =
       fillslender = u.ensures.fills.lender ∙ t.ensures.fills.lender;
     }
 
-pub overflow-cast-result : goal.overflow-cast-result
-overflow-cast-result g c =
+pub overflow_cast-result : goal.overflow_cast-result
+overflow_cast-result g c =
     let a = c.act-traded.ensures.acted in
-    let b = c.settle-in.ensures.settled in
+    let b = c.settle_in.ensures.settled in
     let first = acts_count a.acts in
     let second = settling_count b.settling in
     let made = appended_length a.fills a.made in

@@ -2,14 +2,14 @@ use Rattle.std.proofs.Common.{◌&&◌, ap, ◌∙◌}
 use Rattle.book.specs.Grounds.{all_in, fine_lit, sound_tables}
 use Rattle.book.proofs.tables.are_sound.Goals as goal
 
-pub returns-then-is-table-fine : goal.returns-then-is-table-fine
+pub returns-then-is_table_fine : goal.returns-then-is_table_fine
 unfolding sound_tables
-returns-then-is-table-fine g c =
+returns-then-is_table_fine g c =
     let q = all_in (fine_lit g.R.Reference.number c.args.lot c.args.darks.now c.args.lits.now) c.args.lits.now in
-    c.is-table-fine-then-is-table-fine.ensures ∙ ap (λ t. t && q) c.if-is-table-fine.ensures
+    c.is_table_fine-then-is_table_fine.ensures ∙ ap (λ t. t && q) c.if-is_table_fine.ensures
 
-pub returns-else-is-table-fine : goal.returns-else-is-table-fine
+pub returns-else-is_table_fine : goal.returns-else-is_table_fine
 unfolding sound_tables
-returns-else-is-table-fine g c =
+returns-else-is_table_fine g c =
     let q = all_in (fine_lit g.R.Reference.number c.args.lot c.args.darks.now c.args.lits.now) c.args.lits.now in
-    c.if-is-table-fine.false ∙ ap (λ t. t && q) c.if-is-table-fine.ensures
+    c.if-is_table_fine.false ∙ ap (λ t. t && q) c.if-is_table_fine.ensures

@@ -53,8 +53,9 @@ serve-made-requires g c =
       place = same_place q nd refl nl refl p.place;
     }
 
-pub invariant-of-self : goal.invariant-of-self
-invariant-of-self g c = (ap valid_lot c.serve-made.ensures.lot ∙ c.args.self.now.lots, (c.serve-made.ensures.darks, (c.serve-made.ensures.lits, tt)))
+pub invariant_of-self : goal.invariant_of-self
+invariant_of-self g c =
+    record { lots = ap valid_lot c.serve-made.ensures.lot ∙ c.args.self.now.lots; few = c.serve-made.ensures.darks; fewer = c.serve-made.ensures.lits }
 
 pub returns : goal.returns
 returns g c =
