@@ -8,7 +8,8 @@ use market::orders::{DarkOrder, Fill, LitOrder, Party};
 use market::quotes::Away;
 use matching::active::Priorities;
 use priority::priority::{EnoughSize, OwnMember, Pile};
-use std::test::*;
+use std::process::Abort;
+use std::test::Fail;
 
 pub type FacilityBook = Book<Pile<OwnMember, EnoughSize>, OwnMember>;
 
@@ -250,11 +251,11 @@ impl Bench {
     }
 
     // The first surprise of the story, if there was one.
-    pub fn verdict(&self) -> Result<(), Fail> {
+    pub fn verdict(&self, rt: &impl Abort) -> Result<(), Fail> {
         match self.surprise {
             Some(s) => {
                 let calls = s.calls;
-                assert_eq!(s.seen, s.wanted, "after {calls} calls");
+                assert_eq!(rt; s.seen, s.wanted, "after {calls} calls");
                 Ok(())
             }
             None => Ok(()),

@@ -14,7 +14,7 @@ fn sell_lots(b: &mut Bench, times: u32) {
 // 99 lit orders of 10,000 lots and 9,487 lots of another are 999,487 trades. The next call is still taken, and the
 // one after it is not.
 #[test]
-fn ground_4_after_999_487_trades() -> Result<(), Fail> {
+fn ground_4_after_999_487_trades(rt: HostRuntime) -> Result<(), Fail> {
     let mut b = Bench::open(1_824, 1_832)?;
     for _ in 0..99 {
         b.place_lit(lit_buy(101, 1_000_000, 1_824));
@@ -36,5 +36,5 @@ fn ground_4_after_999_487_trades() -> Result<(), Fail> {
     b.refuses_start(4);
     b.lit[0].remaining = 150;
     b.refuses_start(3);
-    b.verdict()
+    b.verdict(&rt)
 }

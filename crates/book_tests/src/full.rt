@@ -22,7 +22,7 @@ fn crowd_lits(b: &mut Bench, price: u32) {
 }
 
 #[test]
-fn a_seventeenth_dark_order_of_a_member_is_refused() -> Result<(), Fail> {
+fn a_seventeenth_dark_order_of_a_member_is_refused(rt: HostRuntime) -> Result<(), Fail> {
     let mut b = Bench::open(1_824, 1_832)?;
     crowd_darks(&mut b);
     b.dark_is(15, rests(116, 100, 0));
@@ -30,11 +30,11 @@ fn a_seventeenth_dark_order_of_a_member_is_refused() -> Result<(), Fail> {
     b.place_dark(dark_buy(201, 100));
     b.place_lit(lit_buy(117, 100, 1_820));
     b.dark_is(16, rests(201, 100, 0));
-    b.verdict()
+    b.verdict(&rt)
 }
 
 #[test]
-fn a_seventeenth_lit_order_of_a_member_is_refused() -> Result<(), Fail> {
+fn a_seventeenth_lit_order_of_a_member_is_refused(rt: HostRuntime) -> Result<(), Fail> {
     let mut b = Bench::open(1_824, 1_832)?;
     crowd_lits(&mut b, 1_820);
     b.lit_is(15, rests(116, 100, 1_820));
@@ -42,22 +42,22 @@ fn a_seventeenth_lit_order_of_a_member_is_refused() -> Result<(), Fail> {
     b.place_lit(lit_buy(201, 100, 1_820));
     b.place_dark(dark_buy(117, 100));
     b.lit_is(16, rests(201, 100, 1_820));
-    b.verdict()
+    b.verdict(&rt)
 }
 
 // 117 would trade away against 201, and is refused before it looks for anybody.
 #[test]
-fn a_dark_order_that_would_trade_away_is_refused_too() -> Result<(), Fail> {
+fn a_dark_order_that_would_trade_away_is_refused_too(rt: HostRuntime) -> Result<(), Fail> {
     let mut b = Bench::open(1_824, 1_832)?;
     crowd_darks(&mut b);
     b.place_dark(dark_buy(201, 100));
     b.refuses_dark(dark_sell(117, 100), 14);
     b.dark(dark_sell(301, 100), done(1, 100, 0));
-    b.verdict()
+    b.verdict(&rt)
 }
 
 #[test]
-fn a_trade_makes_room_for_another_order() -> Result<(), Fail> {
+fn a_trade_makes_room_for_another_order(rt: HostRuntime) -> Result<(), Fail> {
     let mut b = Bench::open(1_824, 1_832)?;
     crowd_lits(&mut b, 1_824);
     b.sdl(sdl_sell(201, 100), done(1, 100, 0));
@@ -65,11 +65,11 @@ fn a_trade_makes_room_for_another_order() -> Result<(), Fail> {
     b.place_lit(lit_buy(117, 100, 1_824));
     b.lit_is(0, rests(102, 100, 1_824));
     b.lit_is(15, rests(117, 100, 1_824));
-    b.verdict()
+    b.verdict(&rt)
 }
 
 #[test]
-fn ground_12_comes_before_ground_14() -> Result<(), Fail> {
+fn ground_12_comes_before_ground_14(rt: HostRuntime) -> Result<(), Fail> {
     let mut b = Bench::open(1_824, 1_832)?;
     crowd_darks(&mut b);
     b.refuses_dark(
@@ -79,20 +79,20 @@ fn ground_12_comes_before_ground_14() -> Result<(), Fail> {
         },
         12,
     );
-    b.verdict()
+    b.verdict(&rt)
 }
 
 #[test]
-fn ground_13_comes_before_ground_14() -> Result<(), Fail> {
+fn ground_13_comes_before_ground_14(rt: HostRuntime) -> Result<(), Fail> {
     let mut b = Bench::open(1_824, 1_832)?;
     crowd_lits(&mut b, 1_820);
     b.refuses_lit(lit_buy(117, 100, 1_832), 13);
-    b.verdict()
+    b.verdict(&rt)
 }
 
 // The seventeenth is a sell of member 2 until the host writes it over to member 1.
 #[test]
-fn a_table_with_seventeen_orders_of_a_member_is_refused() -> Result<(), Fail> {
+fn a_table_with_seventeen_orders_of_a_member_is_refused(rt: HostRuntime) -> Result<(), Fail> {
     let mut b = Bench::open(1_824, 1_832)?;
     crowd_darks(&mut b);
     b.place_dark(dark_sell(201, 100));
@@ -100,5 +100,5 @@ fn a_table_with_seventeen_orders_of_a_member_is_refused() -> Result<(), Fail> {
     b.refuses_dark(dark_sell(301, 100), 3);
     b.dark[16].member = 2;
     b.place_dark(dark_sell(301, 100));
-    b.verdict()
+    b.verdict(&rt)
 }

@@ -32,7 +32,7 @@ fn ground_1_for_an_unlisted_lot(rt: HostRuntime) -> Result<(), Fail> {
 }
 
 #[test]
-fn ground_5_for_a_member_out_of_range() -> Result<(), Fail> {
+fn ground_5_for_a_member_out_of_range(rt: HostRuntime) -> Result<(), Fail> {
     let mut b = busy()?;
     b.refuses_dark(
         DarkEntry {
@@ -77,11 +77,11 @@ fn ground_5_for_a_member_out_of_range() -> Result<(), Fail> {
         5,
     );
     b.place_lit(lit_buy(1_601, 500, 1_820));
-    b.verdict()
+    b.verdict(&rt)
 }
 
 #[test]
-fn ground_6_for_the_codes_of_a_dark_entry() -> Result<(), Fail> {
+fn ground_6_for_the_codes_of_a_dark_entry(rt: HostRuntime) -> Result<(), Fail> {
     let mut b = busy()?;
     b.refuses_dark(
         DarkEntry {
@@ -132,11 +132,11 @@ fn ground_6_for_the_codes_of_a_dark_entry() -> Result<(), Fail> {
         },
         6,
     );
-    b.verdict()
+    b.verdict(&rt)
 }
 
 #[test]
-fn ground_6_for_the_codes_of_other_entries() -> Result<(), Fail> {
+fn ground_6_for_the_codes_of_other_entries(rt: HostRuntime) -> Result<(), Fail> {
     let mut b = busy()?;
     b.refuses_sdl(
         SdlEntry {
@@ -194,22 +194,22 @@ fn ground_6_for_the_codes_of_other_entries() -> Result<(), Fail> {
         },
         6,
     );
-    b.verdict()
+    b.verdict(&rt)
 }
 
 #[test]
-fn ground_7_for_an_early_sdl_entry_and_a_second_start() -> Result<(), Fail> {
+fn ground_7_for_an_early_sdl_entry_and_a_second_start(rt: HostRuntime) -> Result<(), Fail> {
     let mut b = Bench::pre_open(1_824, 1_832)?;
     b.place_dark(dark_buy(101, 500));
     b.refuses_sdl(sdl_sell(201, 500), 7);
     b.start(done(0, 0, 0));
     b.refuses_start(7);
     b.sdl(sdl_sell(201, 500), done(1, 500, 0));
-    b.verdict()
+    b.verdict(&rt)
 }
 
 #[test]
-fn ground_8_for_no_reference_and_for_one_that_rests() -> Result<(), Fail> {
+fn ground_8_for_no_reference_and_for_one_that_rests(rt: HostRuntime) -> Result<(), Fail> {
     let mut b = busy()?;
     b.refuses_dark(
         DarkEntry {
@@ -238,12 +238,12 @@ fn ground_8_for_no_reference_and_for_one_that_rests() -> Result<(), Fail> {
     b.refuses_lit(lit_buy(301, 500, 1_820), 8);
     b.refuses_dark(dark_buy(301, 500), 8);
     b.refuses_sdl(sdl_sell(301, 500), 8);
-    b.verdict()
+    b.verdict(&rt)
 }
 
 // Member 2 may call an order as member 1 does, and the reference of an SDL order or of an order that has left is free.
 #[test]
-fn no_ground_8_for_a_reference_that_is_free() -> Result<(), Fail> {
+fn no_ground_8_for_a_reference_that_is_free(rt: HostRuntime) -> Result<(), Fail> {
     let mut b = busy()?;
     b.place_dark(DarkEntry {
         member: 2,
@@ -252,11 +252,11 @@ fn no_ground_8_for_a_reference_that_is_free() -> Result<(), Fail> {
     b.sdl(sdl_sell(201, 100), done(1, 100, 0));
     b.sdl(sdl_sell(201, 400), done(1, 400, 0));
     b.place_dark(dark_buy(101, 300));
-    b.verdict()
+    b.verdict(&rt)
 }
 
 #[test]
-fn ground_10_for_a_quantity_out_of_range() -> Result<(), Fail> {
+fn ground_10_for_a_quantity_out_of_range(rt: HostRuntime) -> Result<(), Fail> {
     let mut b = busy()?;
     b.refuses_dark(dark_buy(102, 0), 10);
     b.refuses_dark(dark_buy(102, 150), 10);
@@ -268,11 +268,11 @@ fn ground_10_for_a_quantity_out_of_range() -> Result<(), Fail> {
     b.refuses_lit(lit_buy(102, 150, 1_820), 10);
     b.refuses_lit(lit_buy(102, 1_000_100, 1_820), 10);
     b.place_dark(dark_buy(102, 1_000_000));
-    b.verdict()
+    b.verdict(&rt)
 }
 
 #[test]
-fn ground_10_for_a_quantity_between_greater_lots() -> Result<(), Fail> {
+fn ground_10_for_a_quantity_between_greater_lots(rt: HostRuntime) -> Result<(), Fail> {
     let mut b = Bench::of_lot(500)?;
     b.refuses_dark(dark_buy(101, 600), 10);
     b.refuses_dark(
@@ -286,11 +286,11 @@ fn ground_10_for_a_quantity_between_greater_lots() -> Result<(), Fail> {
         minimum: 500,
         ..dark_buy(101, 1_500)
     });
-    b.verdict()
+    b.verdict(&rt)
 }
 
 #[test]
-fn ground_11_for_prices_off_the_grid() -> Result<(), Fail> {
+fn ground_11_for_prices_off_the_grid(rt: HostRuntime) -> Result<(), Fail> {
     let mut b = busy()?;
     b.refuses_quote(1, 0, 11);
     b.refuses_quote(1_824, 1_830, 11);
@@ -318,11 +318,11 @@ fn ground_11_for_prices_off_the_grid() -> Result<(), Fail> {
     b.refuses_lit(lit_buy(102, 500, 0), 11);
     b.refuses_lit(lit_buy(102, 500, 1_822), 11);
     b.place_lit(lit_buy(102, 500, 198));
-    b.verdict()
+    b.verdict(&rt)
 }
 
 #[test]
-fn ground_12_for_a_minimum_out_of_range() -> Result<(), Fail> {
+fn ground_12_for_a_minimum_out_of_range(rt: HostRuntime) -> Result<(), Fail> {
     let mut b = busy()?;
     b.refuses_dark(
         DarkEntry {
@@ -342,11 +342,11 @@ fn ground_12_for_a_minimum_out_of_range() -> Result<(), Fail> {
         minimum: 500,
         ..dark_buy(102, 500)
     });
-    b.verdict()
+    b.verdict(&rt)
 }
 
 #[test]
-fn ground_13_for_a_lit_order_that_crosses_other_markets() -> Result<(), Fail> {
+fn ground_13_for_a_lit_order_that_crosses_other_markets(rt: HostRuntime) -> Result<(), Fail> {
     let mut b = Bench::pre_open(1_824, 1_832)?;
     b.refuses_lit(lit_buy(101, 500, 1_832), 13);
     b.refuses_lit(lit_buy(101, 500, 1_836), 13);
@@ -354,23 +354,23 @@ fn ground_13_for_a_lit_order_that_crosses_other_markets() -> Result<(), Fail> {
     b.refuses_lit(lit_sell(101, 500, 1_820), 13);
     b.quote(0, 0, done(0, 0, 0));
     b.place_lit(lit_buy(101, 500, 4_000_000));
-    b.verdict()
+    b.verdict(&rt)
 }
 
 // The lit sell 301 makes the best offer of 1,832, and the lit buy 302 the best bid of 1,828.
 #[test]
-fn ground_13_for_a_lit_order_that_crosses_a_lit_order() -> Result<(), Fail> {
+fn ground_13_for_a_lit_order_that_crosses_a_lit_order(rt: HostRuntime) -> Result<(), Fail> {
     let mut b = Bench::open(1_820, 1_840)?;
     b.place_lit(lit_sell(301, 500, 1_832));
     b.refuses_lit(lit_buy(101, 500, 1_832), 13);
     b.place_lit(lit_buy(302, 500, 1_828));
     b.refuses_lit(lit_sell(101, 500, 1_828), 13);
     b.lits_are(&[rests(301, 500, 1_832), rests(302, 500, 1_828)]);
-    b.verdict()
+    b.verdict(&rt)
 }
 
 #[test]
-fn the_first_of_two_grounds_of_a_dark_entry() -> Result<(), Fail> {
+fn the_first_of_two_grounds_of_a_dark_entry(rt: HostRuntime) -> Result<(), Fail> {
     let mut b = busy()?;
     b.refuses_dark(
         DarkEntry {
@@ -404,11 +404,11 @@ fn the_first_of_two_grounds_of_a_dark_entry() -> Result<(), Fail> {
         },
         11,
     );
-    b.verdict()
+    b.verdict(&rt)
 }
 
 #[test]
-fn the_first_of_two_grounds_of_other_entries() -> Result<(), Fail> {
+fn the_first_of_two_grounds_of_other_entries(rt: HostRuntime) -> Result<(), Fail> {
     let mut b = busy()?;
     b.refuses_lit(
         LitEntry {
@@ -426,11 +426,11 @@ fn the_first_of_two_grounds_of_other_entries() -> Result<(), Fail> {
         },
         10,
     );
-    b.verdict()
+    b.verdict(&rt)
 }
 
 #[test]
-fn the_first_of_two_grounds_of_an_early_entry() -> Result<(), Fail> {
+fn the_first_of_two_grounds_of_an_early_entry(rt: HostRuntime) -> Result<(), Fail> {
     let mut b = Bench::pre_open(1_824, 1_832)?;
     b.refuses_sdl(
         SdlEntry {
@@ -446,5 +446,5 @@ fn the_first_of_two_grounds_of_an_early_entry() -> Result<(), Fail> {
         },
         7,
     );
-    b.verdict()
+    b.verdict(&rt)
 }

@@ -2,10 +2,17 @@
 use crate::bench::*;
 use crate::entries::*;
 use book::call::DarkEntry;
+use std::process::Abort;
 use std::test::*;
 
 // A Dark sell of this reference and key is to be answered so, where a Dark buy of member 1 rests.
-fn meeting(resting_key: u32, reference: u32, key: u32, wanted: Answer) -> Result<(), Fail> {
+fn meeting(
+    rt: &impl Abort,
+    resting_key: u32,
+    reference: u32,
+    key: u32,
+    wanted: Answer,
+) -> Result<(), Fail> {
     let mut b = Bench::open(1_824, 1_832)?;
     b.place_dark(DarkEntry {
         key: resting_key,
@@ -18,26 +25,26 @@ fn meeting(resting_key: u32, reference: u32, key: u32, wanted: Answer) -> Result
         },
         wanted,
     );
-    b.verdict()
+    b.verdict(rt)
 }
 
 #[test]
-fn the_same_member_and_key_do_not_meet() -> Result<(), Fail> {
-    meeting(7, 102, 7, done(0, 0, 0))
+fn the_same_member_and_key_do_not_meet(rt: HostRuntime) -> Result<(), Fail> {
+    meeting(&rt, 7, 102, 7, done(0, 0, 0))
 }
 
 #[test]
-fn other_keys_and_members_meet() -> Result<(), Fail> {
-    meeting(0, 102, 0, done(1, 500, 0))?;
-    meeting(7, 102, 8, done(1, 500, 0))?;
-    meeting(7, 102, 0, done(1, 500, 0))?;
-    meeting(0, 102, 7, done(1, 500, 0))?;
-    meeting(7, 201, 7, done(1, 500, 0))
+fn other_keys_and_members_meet(rt: HostRuntime) -> Result<(), Fail> {
+    meeting(&rt, 0, 102, 0, done(1, 500, 0))?;
+    meeting(&rt, 7, 102, 8, done(1, 500, 0))?;
+    meeting(&rt, 7, 102, 0, done(1, 500, 0))?;
+    meeting(&rt, 0, 102, 7, done(1, 500, 0))?;
+    meeting(&rt, 7, 201, 7, done(1, 500, 0))
 }
 
 // The sell passes by 101 to meet 201. An SDL order has no key, and meets 101.
 #[test]
-fn a_key_bars_one_order_and_lets_the_next_be_met() -> Result<(), Fail> {
+fn a_key_bars_one_order_and_lets_the_next_be_met(rt: HostRuntime) -> Result<(), Fail> {
     let mut b = Bench::open(1_824, 1_832)?;
     b.place_dark(DarkEntry {
         key: 7,
@@ -55,5 +62,5 @@ fn a_key_bars_one_order_and_lets_the_next_be_met() -> Result<(), Fail> {
     b.darks_are(&[rests(101, 500, 0), rests(102, 100, 0)]);
     b.sdl(sdl_sell(103, 500), done(1, 500, 0));
     b.fills_are(&[sdl_dark(2, 101, 103, 500, 1_828)]);
-    b.verdict()
+    b.verdict(&rt)
 }

@@ -51,7 +51,7 @@ fn resting() -> Result<Bench, Fail> {
 }
 
 #[test]
-fn ground_3_on_every_call_for_a_bad_quantity() -> Result<(), Fail> {
+fn ground_3_on_every_call_for_a_bad_quantity(rt: HostRuntime) -> Result<(), Fail> {
     let mut b = resting()?;
     b.dark[0].remaining = 450;
     b.refuses_quote(0, 0, 3);
@@ -61,12 +61,12 @@ fn ground_3_on_every_call_for_a_bad_quantity() -> Result<(), Fail> {
     b.refuses_start(3);
     b.dark[0].remaining = 500;
     b.start(done(0, 0, 0));
-    b.verdict()
+    b.verdict(&rt)
 }
 
 // A minimum above what remains, a cap off the grid, no reference, an unknown member, a lit price off the grid.
 #[test]
-fn ground_3_for_other_bad_fields() -> Result<(), Fail> {
+fn ground_3_for_other_bad_fields(rt: HostRuntime) -> Result<(), Fail> {
     let mut b = resting()?;
     b.dark[0].remaining = 100;
     b.refuses_start(3);
@@ -82,11 +82,11 @@ fn ground_3_for_other_bad_fields() -> Result<(), Fail> {
     b.dark[1].member = 2;
     b.lit[0].price = 1_822;
     b.refuses_start(3);
-    b.verdict()
+    b.verdict(&rt)
 }
 
 #[test]
-fn ground_3_for_a_reference_twice() -> Result<(), Fail> {
+fn ground_3_for_a_reference_twice(rt: HostRuntime) -> Result<(), Fail> {
     let mut b = resting()?;
     b.dark[1].member = 1;
     b.dark[1].reference = 101;
@@ -97,11 +97,11 @@ fn ground_3_for_a_reference_twice() -> Result<(), Fail> {
     b.refuses_start(3);
     b.lit[0].reference = 103;
     b.start(done(0, 0, 0));
-    b.verdict()
+    b.verdict(&rt)
 }
 
 #[test]
-fn ground_3_comes_before_ground_5() -> Result<(), Fail> {
+fn ground_3_comes_before_ground_5(rt: HostRuntime) -> Result<(), Fail> {
     let mut b = resting()?;
     b.lit[0].remaining = 0;
     b.refuses_dark(
@@ -119,16 +119,16 @@ fn ground_3_comes_before_ground_5() -> Result<(), Fail> {
         },
         5,
     );
-    b.verdict()
+    b.verdict(&rt)
 }
 
 // A place after the resting orders means nothing.
 #[test]
-fn what_stands_past_the_queue_is_not_read() -> Result<(), Fail> {
+fn what_stands_past_the_queue_is_not_read(rt: HostRuntime) -> Result<(), Fail> {
     let mut b = resting()?;
     b.dark[2].remaining = 150;
     b.dark[2].member = 17;
     b.lit[1].price = 3;
     b.start(done(0, 0, 0));
-    b.verdict()
+    b.verdict(&rt)
 }

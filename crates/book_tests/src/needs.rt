@@ -6,7 +6,7 @@ use std::test::*;
 
 // A need taken afresh would be 300 after the first trade, and 301 would be met before 202.
 #[test]
-fn a_dark_order_keeps_its_need() -> Result<(), Fail> {
+fn a_dark_order_keeps_its_need(rt: HostRuntime) -> Result<(), Fail> {
     let mut b = Bench::open(1_824, 1_832)?;
     b.place_dark(dark_buy(201, 600));
     b.place_dark(dark_buy(202, 100));
@@ -18,12 +18,12 @@ fn a_dark_order_keeps_its_need() -> Result<(), Fail> {
         dark_dark(3, 301, 401, 200, 1_828),
     ]);
     b.darks_are(&[rests(301, 100, 0)]);
-    b.verdict()
+    b.verdict(&rt)
 }
 
 // 5,100 shares are 51 lots: Large. At 1,824 the need is the 4,100 that remain there, which 301 reaches.
 #[test]
-fn a_sweep_takes_a_new_need_at_the_next_price() -> Result<(), Fail> {
+fn a_sweep_takes_a_new_need_at_the_next_price(rt: HostRuntime) -> Result<(), Fail> {
     let mut b = Bench::open(1_824, 1_832)?;
     b.place_dark(DarkEntry {
         peg: TOUCH,
@@ -40,12 +40,12 @@ fn a_sweep_takes_a_new_need_at_the_next_price() -> Result<(), Fail> {
         sdl_dark(2, 301, 501, 4_100, 1_824),
     ]);
     b.darks_are(&[rests(202, 500, 0)]);
-    b.verdict()
+    b.verdict(&rt)
 }
 
 // At 1,824 the need stays at 4,100. Taken afresh it would be 2,500 after 202, and 301 would be met before 203.
 #[test]
-fn an_sdl_order_keeps_its_need_at_the_next_price() -> Result<(), Fail> {
+fn an_sdl_order_keeps_its_need_at_the_next_price(rt: HostRuntime) -> Result<(), Fail> {
     let mut b = Bench::open(1_824, 1_832)?;
     b.place_dark(dark_buy(201, 1_000));
     b.place_dark(DarkEntry {
@@ -68,5 +68,5 @@ fn an_sdl_order_keeps_its_need_at_the_next_price() -> Result<(), Fail> {
         sdl_dark(4, 301, 501, 2_400, 1_824),
     ]);
     b.darks_are(&[rests(301, 100, 0)]);
-    b.verdict()
+    b.verdict(&rt)
 }

@@ -5,7 +5,7 @@ use book::call::DarkEntry;
 use std::test::*;
 
 #[test]
-fn dark_orders_join_and_the_start_settles_them() -> Result<(), Fail> {
+fn dark_orders_join_and_the_start_settles_them(rt: HostRuntime) -> Result<(), Fail> {
     let mut b = Bench::pre_open(1_824, 1_832)?;
     b.place_dark(dark_buy(101, 500));
     b.place_dark(dark_sell(201, 500));
@@ -13,12 +13,12 @@ fn dark_orders_join_and_the_start_settles_them() -> Result<(), Fail> {
     b.start(done(1, 0, 0));
     b.fills_are(&[dark_dark(1, 101, 201, 500, 1_828)]);
     b.darks_are(&[]);
-    b.verdict()
+    b.verdict(&rt)
 }
 
 // 101 sweeps first. Nobody reaches its need of 800, so 201 and 301 are met in turn, and 200 of it go behind 401.
 #[test]
-fn the_front_of_the_queue_sweeps_first() -> Result<(), Fail> {
+fn the_front_of_the_queue_sweeps_first(rt: HostRuntime) -> Result<(), Fail> {
     let mut b = Bench::pre_open(1_824, 1_832)?;
     b.place_dark(dark_buy(101, 800));
     b.place_dark(dark_sell(201, 300));
@@ -30,12 +30,12 @@ fn the_front_of_the_queue_sweeps_first() -> Result<(), Fail> {
         dark_dark(2, 101, 301, 300, 1_828),
     ]);
     b.darks_are(&[rests(401, 100, 0), rests(101, 200, 0)]);
-    b.verdict()
+    b.verdict(&rt)
 }
 
 // The buy is priced at 1,824 and the sell at 1,832, and the midpoint is 1,828.
 #[test]
-fn caps_keep_dark_orders_from_the_midpoint() -> Result<(), Fail> {
+fn caps_keep_dark_orders_from_the_midpoint(rt: HostRuntime) -> Result<(), Fail> {
     let mut b = Bench::pre_open(1_824, 1_832)?;
     b.place_dark(DarkEntry {
         cap: 1_824,
@@ -47,11 +47,11 @@ fn caps_keep_dark_orders_from_the_midpoint() -> Result<(), Fail> {
     });
     b.start(done(0, 0, 0));
     b.darks_are(&[rests(101, 500, 0), rests(201, 500, 0)]);
-    b.verdict()
+    b.verdict(&rt)
 }
 
 #[test]
-fn caps_at_the_midpoint_let_dark_orders_meet() -> Result<(), Fail> {
+fn caps_at_the_midpoint_let_dark_orders_meet(rt: HostRuntime) -> Result<(), Fail> {
     let mut b = Bench::pre_open(1_824, 1_832)?;
     b.place_dark(DarkEntry {
         cap: 1_828,
@@ -63,12 +63,12 @@ fn caps_at_the_midpoint_let_dark_orders_meet() -> Result<(), Fail> {
     });
     b.start(done(1, 0, 0));
     b.fills_are(&[dark_dark(1, 101, 201, 500, 1_828)]);
-    b.verdict()
+    b.verdict(&rt)
 }
 
 // 201 has fewer shares than the 500 that 101 asks for; 301 has just as many.
 #[test]
-fn minimums_keep_dark_orders_apart() -> Result<(), Fail> {
+fn minimums_keep_dark_orders_apart(rt: HostRuntime) -> Result<(), Fail> {
     let mut b = Bench::pre_open(1_824, 1_832)?;
     b.place_dark(DarkEntry {
         minimum: 500,
@@ -79,11 +79,11 @@ fn minimums_keep_dark_orders_apart() -> Result<(), Fail> {
     b.start(done(1, 0, 0));
     b.fills_are(&[dark_dark(1, 101, 301, 500, 1_828)]);
     b.darks_are(&[rests(201, 400, 0)]);
-    b.verdict()
+    b.verdict(&rt)
 }
 
 #[test]
-fn a_new_quote_settles_nothing_before_the_start() -> Result<(), Fail> {
+fn a_new_quote_settles_nothing_before_the_start(rt: HostRuntime) -> Result<(), Fail> {
     let mut b = Bench::pre_open(0, 0)?;
     b.place_dark(dark_buy(101, 500));
     b.place_dark(dark_sell(201, 500));
@@ -91,5 +91,5 @@ fn a_new_quote_settles_nothing_before_the_start() -> Result<(), Fail> {
     b.place_lit(lit_buy(301, 100, 1_824));
     b.start(done(1, 0, 0));
     b.lits_are(&[rests(301, 100, 1_824)]);
-    b.verdict()
+    b.verdict(&rt)
 }

@@ -2,10 +2,11 @@
 use crate::bench::*;
 use crate::entries::*;
 use book::call::{DarkEntry, LitEntry, SdlEntry};
+use std::process::Abort;
 use std::test::*;
 
 // Whom an SDL sell of member 3 is to meet of the Dark buys 201 and 301.
-fn sdl_meets_dark(resting: u32, active: u32, met: u32) -> Result<(), Fail> {
+fn sdl_meets_dark(rt: &impl Abort, resting: u32, active: u32, met: u32) -> Result<(), Fail> {
     let mut b = Bench::open(1_824, 1_832)?;
     b.place_dark(dark_buy(201, 500));
     b.place_dark(DarkEntry {
@@ -20,11 +21,11 @@ fn sdl_meets_dark(resting: u32, active: u32, met: u32) -> Result<(), Fail> {
         done(1, 500, 0),
     );
     b.fill_is(0, sdl_dark(1, met, 302, 500, 1_828));
-    b.verdict()
+    b.verdict(rt)
 }
 
 // Whom an SDL sell of member 3 is to meet of the lit buys 201 and 301.
-fn sdl_meets_lit(resting: u32, active: u32, met: u32) -> Result<(), Fail> {
+fn sdl_meets_lit(rt: &impl Abort, resting: u32, active: u32, met: u32) -> Result<(), Fail> {
     let mut b = Bench::open(1_824, 1_832)?;
     b.place_lit(lit_buy(201, 500, 1_824));
     b.place_lit(LitEntry {
@@ -39,11 +40,11 @@ fn sdl_meets_lit(resting: u32, active: u32, met: u32) -> Result<(), Fail> {
         done(1, 500, 0),
     );
     b.fill_is(0, sdl_lit(1, met, 302, 500, 1_824));
-    b.verdict()
+    b.verdict(rt)
 }
 
 // Whom a Dark sell of member 3 is to meet of the Dark buys 201 and 301.
-fn dark_meets_dark(resting: u32, active: u32, met: u32) -> Result<(), Fail> {
+fn dark_meets_dark(rt: &impl Abort, resting: u32, active: u32, met: u32) -> Result<(), Fail> {
     let mut b = Bench::open(1_824, 1_832)?;
     b.place_dark(dark_buy(201, 500));
     b.place_dark(DarkEntry {
@@ -58,36 +59,38 @@ fn dark_meets_dark(resting: u32, active: u32, met: u32) -> Result<(), Fail> {
         done(1, 500, 0),
     );
     b.fill_is(0, dark_dark(1, met, 302, 500, 1_828));
-    b.verdict()
+    b.verdict(rt)
 }
 
 #[test]
-fn marks_have_no_effect_where_sdl_meets_dark() -> Result<(), Fail> {
-    sdl_meets_dark(0, 0, 301)?;
-    sdl_meets_dark(MARKED, 0, 301)?;
-    sdl_meets_dark(0, MARKED, 301)?;
-    sdl_meets_dark(MARKED, MARKED, 301)
+fn marks_have_no_effect_where_sdl_meets_dark(rt: HostRuntime) -> Result<(), Fail> {
+    sdl_meets_dark(&rt, 0, 0, 301)?;
+    sdl_meets_dark(&rt, MARKED, 0, 301)?;
+    sdl_meets_dark(&rt, 0, MARKED, 301)?;
+    sdl_meets_dark(&rt, MARKED, MARKED, 301)
 }
 
 #[test]
-fn a_marked_order_is_nobodys_where_sdl_meets_lit() -> Result<(), Fail> {
-    sdl_meets_lit(0, 0, 301)?;
-    sdl_meets_lit(MARKED, 0, 201)?;
-    sdl_meets_lit(0, MARKED, 201)?;
-    sdl_meets_lit(MARKED, MARKED, 201)
+fn a_marked_order_is_nobodys_where_sdl_meets_lit(rt: HostRuntime) -> Result<(), Fail> {
+    sdl_meets_lit(&rt, 0, 0, 301)?;
+    sdl_meets_lit(&rt, MARKED, 0, 201)?;
+    sdl_meets_lit(&rt, 0, MARKED, 201)?;
+    sdl_meets_lit(&rt, MARKED, MARKED, 201)
 }
 
 #[test]
-fn a_marked_order_is_nobodys_where_dark_meets_dark() -> Result<(), Fail> {
-    dark_meets_dark(0, 0, 301)?;
-    dark_meets_dark(MARKED, 0, 201)?;
-    dark_meets_dark(0, MARKED, 201)?;
-    dark_meets_dark(MARKED, MARKED, 201)
+fn a_marked_order_is_nobodys_where_dark_meets_dark(rt: HostRuntime) -> Result<(), Fail> {
+    dark_meets_dark(&rt, 0, 0, 301)?;
+    dark_meets_dark(&rt, MARKED, 0, 201)?;
+    dark_meets_dark(&rt, 0, MARKED, 201)?;
+    dark_meets_dark(&rt, MARKED, MARKED, 201)
 }
 
 // 201 reaches the need of 1,000 and 301 does not; 301 is of the SDL order's member.
 #[test]
-fn an_own_order_goes_before_one_of_enough_size_in_an_sdl_sweep() -> Result<(), Fail> {
+fn an_own_order_goes_before_one_of_enough_size_in_an_sdl_sweep(
+    rt: HostRuntime,
+) -> Result<(), Fail> {
     let mut b = Bench::open(1_824, 1_832)?;
     b.place_dark(dark_buy(201, 1_000));
     b.place_dark(dark_buy(301, 200));
@@ -97,11 +100,13 @@ fn an_own_order_goes_before_one_of_enough_size_in_an_sdl_sweep() -> Result<(), F
         sdl_dark(2, 201, 302, 800, 1_828),
     ]);
     b.darks_are(&[rests(201, 200, 0)]);
-    b.verdict()
+    b.verdict(&rt)
 }
 
 #[test]
-fn an_own_order_goes_before_one_of_enough_size_in_a_dark_sweep() -> Result<(), Fail> {
+fn an_own_order_goes_before_one_of_enough_size_in_a_dark_sweep(
+    rt: HostRuntime,
+) -> Result<(), Fail> {
     let mut b = Bench::open(1_824, 1_832)?;
     b.place_dark(dark_buy(201, 1_000));
     b.place_dark(dark_buy(301, 200));
@@ -110,21 +115,21 @@ fn an_own_order_goes_before_one_of_enough_size_in_a_dark_sweep() -> Result<(), F
         dark_dark(1, 301, 302, 200, 1_828),
         dark_dark(2, 201, 302, 800, 1_828),
     ]);
-    b.verdict()
+    b.verdict(&rt)
 }
 
 #[test]
-fn an_order_of_enough_size_goes_before_the_front_of_the_queue() -> Result<(), Fail> {
+fn an_order_of_enough_size_goes_before_the_front_of_the_queue(rt: HostRuntime) -> Result<(), Fail> {
     let mut b = Bench::open(1_824, 1_832)?;
     b.place_dark(dark_buy(201, 200));
     b.place_dark(dark_buy(401, 1_000));
     b.sdl(sdl_sell(501, 1_000), done(1, 1_000, 0));
     b.fills_are(&[sdl_dark(1, 401, 501, 1_000, 1_828)]);
-    b.verdict()
+    b.verdict(&rt)
 }
 
 #[test]
-fn size_counts_for_nothing_among_lit_orders() -> Result<(), Fail> {
+fn size_counts_for_nothing_among_lit_orders(rt: HostRuntime) -> Result<(), Fail> {
     let mut b = Bench::open(1_824, 1_832)?;
     b.place_lit(lit_buy(201, 100, 1_824));
     b.place_lit(lit_buy(401, 500, 1_824));
@@ -133,5 +138,5 @@ fn size_counts_for_nothing_among_lit_orders() -> Result<(), Fail> {
         sdl_lit(1, 201, 501, 100, 1_824),
         sdl_lit(2, 401, 501, 400, 1_824),
     ]);
-    b.verdict()
+    b.verdict(&rt)
 }

@@ -18,7 +18,7 @@ returns-in-Err c =
 pub loop-i-preserved : goal.loop-i-preserved
 loop-i-preserved c =
     let l = c.loop-i in
-    let k = c.in-default.ensures in (
+    let k = c.in_default.ensures in (
       k.lot ∙ l.invariant.0,
       λ t w.
           (one_turn c.args.calls.now l.i _ c.loop-i-test.true l.invariant.0 (l.auto.dark ∙ c.requires.darks) (l.auto.lit ∙ c.requires.lits) (l.auto.fills ∙ c.requires.fills) k t (l.invariant.1 t w)).1,
