@@ -1,7 +1,7 @@
 -- What is known once no ground holds.
 use Rattle.std.proofs.Common.{◌≡◌, ℕ, ◌<◌, ◌≤◌, Bool, true, false, cond, not, ◌&&◌, eqb, ltb, leb, List, [], ◌∷◌, length, Some, None, Option, refl, ap, ◌∙◌, subst, subst₂, arith}
 use Rattle.std.proofs.lemmas.Bool.{and_parts, eqb-true, leb-true, ltb-false}
-use Rattle.std.specs.List.{AllByRecursion as All}
+use Rattle.std.specs.List.{AllByRecursion}
 use Rattle.market.specs.declared.ground.Ground.{Ground}
 use Rattle.market.specs.declared.orders.DarkOrder.{DarkOrder}
 use Rattle.market.specs.declared.orders.LitOrder.{LitOrder}
@@ -43,7 +43,7 @@ passes : (t : Bool) (g : Ground) (rest : Option Ground) → cond t (Some g) rest
 passes true g rest e = absurd (let z : ◌≡◌ {A = ℕ} 0 1 = cc in omega arith)
 passes false g rest e = (refl, e)
 
-all_pass : (cs : List Check) → first_of cs ≡ None → All (λ c. c.fails ≡ false) cs
+all_pass : (cs : List Check) → first_of cs ≡ None → AllByRecursion (λ c. c.fails ≡ false) cs
 all_pass [] e = tt
 all_pass (c ∷ cs) e = let p = passes c.fails c.ground (first_of cs) e in (p.0, all_pass cs p.1)
 

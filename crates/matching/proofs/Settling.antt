@@ -1,7 +1,7 @@
 -- Settling under way: whatever settles from here, settles from the start after what was made; and every round has a fill.
 use Rattle.std.proofs.Common.{◌≡◌, ℕ, ◌+◌, ◌-◌, ◌<◌, ◌≤◌, min, Bool, true, false, cond, not, ◌&&◌, ◌||◌, eqb, ltb, List, [], ◌∷◌, ◌++◌, length, get_or, take, drop, Some, sym, refl, ap, ◌∙◌, subst, ap₂, subst₂, arith}
 use mathlib.Core.Path.{subst₃}
-use Rattle.std.specs.List.{AllByRecursion as All}
+use Rattle.std.specs.List.{AllByRecursion}
 use Rattle.std.proofs.lemmas.List.{append-nil, append_assoc, length-append}
 use Rattle.std.proofs.lemmas.Bool.{and_right, and_left}
 use Rattle.market.specs.declared.codes.Side.{Side}
@@ -157,7 +157,7 @@ module _ {R : Type 0} (o : Orderings) (c : Contents R) (at : ℕ) (d : DarkOrder
 
 -- the first that passes, read from the front
 module _ {X : Type 0} (p : X → Bool) where
-  pub first_here : (before : List X) (x : X) (after : List X) → All (λ y. p y ≡ false) before → p x ≡ true → first p (before ++ x ∷ after) ≡ found before x after
+  pub first_here : (before : List X) (x : X) (after : List X) → AllByRecursion (λ y. p y ≡ false) before → p x ≡ true → first p (before ++ x ∷ after) ≡ found before x after
   first_here [] x after h e = go (first p after)
     where
       go : (k : Pick X) → join p (λ a b. false) x after k ≡ found [] x after
@@ -165,6 +165,6 @@ module _ {X : Type 0} (p : X → Bool) where
       go (found b y a) = rw e
   first_here (y ∷ ys) x after h e = rw (first_here ys x after h.1 e, h.0)
 
-  pub first_none : (xs : List X) → All (λ y. p y ≡ false) xs → first p xs ≡ nobody
+  pub first_none : (xs : List X) → AllByRecursion (λ y. p y ≡ false) xs → first p xs ≡ nobody
   first_none [] h = refl
   first_none (x ∷ xs) h = rw (first_none xs h.1, h.0)

@@ -1,6 +1,6 @@
 -- The choice: of those that may be met, the one that no other beats, and of those level the earliest.
 use Rattle.std.specs.Prelude.{◌≡◌, ℕ, ◌+◌, ◌<◌, Bool, true, false, cond, not, ◌&&◌, ◌||◌, List, [], ◌∷◌, ◌++◌, length, take, drop, Some, None, Option, ◌==◌, slice_index_or}
-use Rattle.std.specs.List.{AllByRecursion as All}
+use Rattle.std.specs.List.{AllByRecursion}
 use Rattle.market.specs.declared.codes.Kind.{Kind}
 use Rattle.market.specs.Prices.{better}
 use Rattle.priority.specs.declared.standing.Standing.{Standing}
@@ -34,12 +34,12 @@ first passes = pick passes (λ x y. false)
 pub record Best {X : Type 0} (able : X → Bool) (beats : X → X → Bool) (xs before : List X) (c : X) (after : List X) : Type 0 where
   pub split : xs ≡ before ++ c ∷ after
   pub fit : able c ≡ true
-  pub ahead : All (λ x. able x ≡ true → beats c x ≡ true) before
-  pub behind : All (λ x. able x ≡ true → beats x c ≡ false) after
+  pub ahead : AllByRecursion (λ x. able x ≡ true → beats c x ≡ true) before
+  pub behind : AllByRecursion (λ x. able x ≡ true → beats x c ≡ false) after
 
 -- what a pick says: nobody is able, or the one found is best
 abbrev pub Picks : {X : Type 0} → (X → Bool) → (X → X → Bool) → List X → Pick X → Type 0
-Picks able beats xs nobody = All (λ x. able x ≡ false) xs
+Picks able beats xs nobody = AllByRecursion (λ x. able x ≡ false) xs
 Picks able beats xs (found before c after) = Best able beats xs before c after
 
 -- what a priority means: an ordering of two resting orders for one active order

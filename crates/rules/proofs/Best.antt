@@ -1,6 +1,6 @@
 -- With a strict preference the pick of a queue is the best of it, and the only one.
 use Rattle.std.proofs.Common.{◌≡◌, ℕ, Bool, true, false, cond, not, ◌&&◌, List, [], ◌∷◌, ◌++◌, Option, refl, ap}
-use Rattle.std.specs.List.{AllByRecursion as All}
+use Rattle.std.specs.List.{AllByRecursion}
 use Rattle.std.proofs.ByRecursion.{All-append, All-weaker}
 use Rattle.market.specs.declared.codes.Kind.{Kind}
 use Rattle.priority.specs.declared.standing.RestingView.{RestingView}
@@ -11,16 +11,16 @@ use Rattle.rules.specs.Choices.{LawfulOrdering}
 use Rattle.rules.proofs.Beats.{Strict, strict}
 
 -- what holds of each holds of the one in the middle
-pub all_mid : {X : Type 0} (P : X → Type 0) (before : List X) (c : X) (after : List X) → All P (before ++ c ∷ after) → P c
+pub all_mid : {X : Type 0} (P : X → Type 0) (before : List X) (c : X) (after : List X) → AllByRecursion P (before ++ c ∷ after) → P c
 all_mid P [] c after h = h.0
 all_mid P (x ∷ xs) c after h = all_mid P xs c after h.1
 
 module _ {X : Type 0} (able : X → Bool) (prefers : X → X → Bool) where
-  one : (xs : List X) (x : X) (t : Bool) → able x ≡ t → All (λ y. able y ≡ false) xs → Picks able prefers (x ∷ xs) (cond t (found [] x xs) nobody)
+  one : (xs : List X) (x : X) (t : Bool) → able x ≡ t → AllByRecursion (λ y. able y ≡ false) xs → Picks able prefers (x ∷ xs) (cond t (found [] x xs) nobody)
   one xs x true e h = record { split = refl; fit = e; ahead = tt; behind = All-weaker _ _ (λ y n t. cc) xs h }
   one xs x false e h = (e, h)
 
-  pub none_able : (xs : List X) → All (λ x. able x ≡ false) xs → pick able prefers xs ≡ nobody
+  pub none_able : (xs : List X) → AllByRecursion (λ x. able x ≡ false) xs → pick able prefers xs ≡ nobody
   none_able [] h = refl
   none_able (x ∷ xs) h = rw (none_able xs h.1, h.0)
 
@@ -49,14 +49,14 @@ module _ {X : Type 0} (able : X → Bool) (prefers : X → X → Bool) where
     picks [] = tt
     picks (x ∷ xs) = step xs x (pick able prefers xs) (picks xs)
 
-    last : (c : X) (after : List X) (p : Pick X) → able c ≡ true → All (λ x. able x ≡ true → prefers x c ≡ false) after → Picks able prefers after p → join able prefers c after p ≡ found [] c after
+    last : (c : X) (after : List X) (p : Pick X) → able c ≡ true → AllByRecursion (λ x. able x ≡ true → prefers x c ≡ false) after → Picks able prefers after p → join able prefers c after p ≡ found [] c after
     last c after nobody e h s = rw e
     last c after (found before y rest) e h s =
         let low : prefers y c ≡ false = all_mid (λ x. able x ≡ true → prefers x c ≡ false) before y rest (rw s.split at h) s.fit in
         rw (e, low)
 
-    at_place : (before : List X) (c : X) (after : List X) → able c ≡ true → All (λ x. able x ≡ true → prefers c x ≡ true) before →
-        All (λ x. able x ≡ true → prefers x c ≡ false) after → pick able prefers (before ++ c ∷ after) ≡ found before c after
+    at_place : (before : List X) (c : X) (after : List X) → able c ≡ true → AllByRecursion (λ x. able x ≡ true → prefers c x ≡ true) before →
+        AllByRecursion (λ x. able x ≡ true → prefers x c ≡ false) after → pick able prefers (before ++ c ∷ after) ≡ found before c after
     at_place [] c after e h k = last c after (pick able prefers after) e k (picks after)
     at_place (x ∷ xs) c after e h k = rw (at_place xs c after e h.1 k) (go (able x) (prefers c x) h.0)
       where
@@ -74,7 +74,7 @@ module _ {X : Type 0} (able : X → Bool) (prefers : X → X → Bool) where
     level_with_itself c false e = e
 
     -- no able one beats the best
-    pub unbeaten_by : (xs before : List X) (c : X) (after : List X) → Best able prefers xs before c after → All (λ x. able x ≡ true → prefers x c ≡ false) xs
+    pub unbeaten_by : (xs before : List X) (c : X) (after : List X) → Best able prefers xs before c after → AllByRecursion (λ x. able x ≡ true → prefers x c ≡ false) xs
     unbeaten_by xs before c after h =
         rw h.split
         (All-append _ before (c ∷ after) (All-weaker _ _ (λ x b t. strict.one_way c x (b t)) before h.ahead) (λ _. level_with_itself c (prefers c c) refl, h.behind))
@@ -89,5 +89,5 @@ module _ {X R : Type 0} (able : X → Bool) (order : Ordering) (lawful : LawfulO
   lawful_picked = best_picked able (beats a kind last order price view) (strict order lawful a kind last price view)
 
   pub lawful_unbeaten : (xs before : List X) (c : X) (after : List X) → Best able (beats a kind last order price view) xs before c after →
-      All (λ x. able x ≡ true → beats a kind last order price view x c ≡ false) xs
+      AllByRecursion (λ x. able x ≡ true → beats a kind last order price view x c ≡ false) xs
   lawful_unbeaten = unbeaten_by able (beats a kind last order price view) (strict order lawful a kind last price view)

@@ -1,6 +1,6 @@
 -- A whole call as a function is a step of the book.
 use Rattle.std.proofs.Common.{◌≡◌, ℕ, Bool, true, false, cond, List, [], ◌∷◌, Some, None, Option, sym, refl, ap, ◌∙◌, subst, arith}
-use Rattle.std.specs.List.{AllByRecursion as All}
+use Rattle.std.specs.List.{AllByRecursion}
 use Rattle.market.specs.declared.ground.Ground.{Ground}
 use Rattle.market.specs.declared.orders.DarkOrder.{DarkOrder}
 use Rattle.market.specs.declared.orders.Fill.{Fill}
@@ -39,12 +39,12 @@ module _ {R : Type 0} (f : Facility R) (s : Session) where
   settled_in c false e = rests e
 
 -- where no ground is found, no check fails
-none_fails : (cs : List Check) → first_of cs ≡ None → All (λ c. c.fails ≡ false) cs
+none_fails : (cs : List Check) → first_of cs ≡ None → AllByRecursion (λ c. c.fails ≡ false) cs
 none_fails [] e = tt
 none_fails (c ∷ cs) e = go c.fails refl (none_fails cs) e
   where
-    go : (t : Bool) → c.fails ≡ t → (first_of cs ≡ None → All (λ c. c.fails ≡ false) cs) → cond t (Some c.ground) (first_of cs) ≡ None →
-        (c.fails ≡ false) × All (λ c. c.fails ≡ false) cs
+    go : (t : Bool) → c.fails ≡ t → (first_of cs ≡ None → AllByRecursion (λ c. c.fails ≡ false) cs) → cond t (Some c.ground) (first_of cs) ≡ None →
+        (c.fails ≡ false) × AllByRecursion (λ c. c.fails ≡ false) cs
     go true h i k = absurd (let z : ◌≡◌ {A = ℕ} 0 1 = cc in omega arith)
     go false h i k = (h, i k)
 

@@ -1,6 +1,6 @@
 -- The choice of two tables is the best of both, and the only one.
 use Rattle.std.proofs.Common.{◌≡◌, ℕ, Bool, true, false, cond, List, refl, ◌∙◌, ap₂}
-use Rattle.std.specs.List.{AllByRecursion as All}
+use Rattle.std.specs.List.{AllByRecursion}
 use Rattle.std.proofs.ByRecursion.{All-weaker}
 use Rattle.std.proofs.lemmas.Bool.{or_parts}
 use Rattle.market.specs.declared.orders.DarkOrder.{DarkOrder}
@@ -25,7 +25,7 @@ module _ {R : Type 0} (o : Orderings) (lawful : LawfulOrderings o) (q : Quote) (
   dark_picked = lawful_picked (dark_able q r) o.dark lawful.dark r.progress.active _ r.progress.dark _ _ r.darks
 
   dark_unbeaten : (before : List (DarkOrder R)) (d : DarkOrder R) (after : List (DarkOrder R)) → Best (dark_able q r) (dark_beats o q r) r.darks before d after →
-      All (λ x. dark_able q r x ≡ true → dark_beats o q r x d ≡ false) r.darks
+      AllByRecursion (λ x. dark_able q r x ≡ true → dark_beats o q r x d ≡ false) r.darks
   dark_unbeaten = lawful_unbeaten (dark_able q r) o.dark lawful.dark r.progress.active _ r.progress.dark _ _ r.darks
 
   lit_picks : Picks (lit_able q r) (lit_beats o q r) r.lits (best_lit o q r.progress r.lits)
@@ -36,7 +36,7 @@ module _ {R : Type 0} (o : Orderings) (lawful : LawfulOrderings o) (q : Quote) (
   lit_picked = lawful_picked (lit_able q r) o.lit lawful.lit r.progress.active _ r.progress.lit _ _ r.lits
 
   lit_unbeaten : (before : List (LitOrder R)) (l : LitOrder R) (after : List (LitOrder R)) → Best (lit_able q r) (lit_beats o q r) r.lits before l after →
-      All (λ x. lit_able q r x ≡ true → lit_beats o q r x l ≡ false) r.lits
+      AllByRecursion (λ x. lit_able q r x ≡ true → lit_beats o q r x l ≡ false) r.lits
   lit_unbeaten = lawful_unbeaten (lit_able q r) o.lit lawful.lit r.progress.active _ r.progress.lit _ _ r.lits
 
   module _ (lb : List (LitOrder R)) (l : LitOrder R) (la : List (LitOrder R)) (db : List (DarkOrder R)) (d : DarkOrder R) (da : List (DarkOrder R))

@@ -2,7 +2,7 @@
 -- on the other side. So it stays better when a lit order trades.
 use Rattle.std.proofs.Common.{◌≡◌, ℕ, ◌-◌, Bool, true, false, cond, not, ◌&&◌, ◌||◌, eqb, List, [], ◌∷◌, ◌++◌, sym, ap, ◌∙◌, arith}
 use mathlib.Core.Bool.{and-true, and_assoc}
-use Rattle.std.specs.List.{AllByRecursion as All}
+use Rattle.std.specs.List.{AllByRecursion}
 use Rattle.std.proofs.lemmas.Bool.{and_parts, and_from}
 use Rattle.std.proofs.lemmas.Bool.Decides.{nat_tests}
 use Rattle.market.specs.declared.codes.Side.{Side}
@@ -14,7 +14,7 @@ use Rattle.market.specs.Quotes.{higher_bid, lower_offer, higher, lower, best_bid
 use Rattle.matching.specs.Sweep.{lit_after, lit_left}
 
 abbrev pub Priced : {R : Type 0} → List (LitOrder R) → Type 0
-Priced ls = All (λ l. l.price ≡ 0 → ⊥) ls
+Priced ls = AllByRecursion (λ l. l.price ≡ 0 → ⊥) ls
 
 -- a price that a lit order does not stand in the way of
 abbrev passes : Side → ℕ → Side → ℕ → Bool
@@ -53,7 +53,7 @@ module _ {R : Type 0} (p : ℕ) where
   past_nearest Sell ls h = past_bids 0 ls h
 
 -- what holds of each still does where the chosen one trades and keeps its place
-pub all_left : {X : Type 0} (P : X → Type 0) (before : List X) (c d : X) (after : List X) (t : Bool) → (P c → P d) → All P (before ++ c ∷ after) → All P (before ++ (cond t [] (d ∷ []) ++ after))
+pub all_left : {X : Type 0} (P : X → Type 0) (before : List X) (c d : X) (after : List X) (t : Bool) → (P c → P d) → AllByRecursion P (before ++ c ∷ after) → AllByRecursion P (before ++ (cond t [] (d ∷ []) ++ after))
 all_left P [] c d after true k h = h.1
 all_left P [] c d after false k h = (k h.0, h.1)
 all_left P (x ∷ xs) c d after t k h = (h.0, all_left P xs c d after t k h.1)

@@ -1,6 +1,6 @@
 -- A sweep that remembers one level in each table is the sweep that notes every choice.
 use Rattle.std.proofs.Common.{◌≡◌, ℕ, ◌-◌, Bool, true, false, cond, ◌&&◌, ◌||◌, eqb, List, [], ◌∷◌, ◌++◌, Option, sym, refl, ap, ◌∙◌, ap₂}
-use Rattle.std.specs.List.{AllByRecursion as All}
+use Rattle.std.specs.List.{AllByRecursion}
 use Rattle.std.proofs.ByRecursion.{All-append, All-weaker}
 use Rattle.market.specs.declared.codes.Kind.{Kind}
 use Rattle.market.specs.declared.codes.Kind.TheVariants.{SdlLit}
@@ -38,8 +38,8 @@ record Kept {R : Type 0} (q : Quote) (ns : Notes) (r : Run R) : Type 0 where
   priced : Priced r.lits
   dark_agrees : Agree r.progress.active.side r.progress.dark ns.dark
   lit_agrees : Agree r.progress.active.side r.progress.lit ns.lit
-  dark_worse : All (λ d. dark_able q r d ≡ true → NoBetter r.progress.active.side r.progress.dark (price_under q d)) r.darks
-  lit_worse : All (λ l. lit_able q r l ≡ true → NoBetter r.progress.active.side r.progress.lit l.price) r.lits
+  dark_worse : AllByRecursion (λ d. dark_able q r d ≡ true → NoBetter r.progress.active.side r.progress.dark (price_under q d)) r.darks
+  lit_worse : AllByRecursion (λ l. lit_able q r l ≡ true → NoBetter r.progress.active.side r.progress.lit l.price) r.lits
   clear : Clear r.progress.active.form r.progress.active.side r.progress.dark r.lits
 
 same_choice : {R : Type 0} (o : Orderings) (q : Quote) (ns : Notes) (r : Run R) → Kept q ns r → choice o q r ≡ choice_by o q ns r
@@ -61,7 +61,7 @@ same_choice o q ns r h =
     r.darks h.dark_worse))
 
 -- what holds of each still does where the chosen one trades and goes to the end
-all_moved : {X : Type 0} (P : X → Type 0) (before : List X) (c d : X) (after : List X) (t : Bool) → P d → All P (before ++ c ∷ after) → All P (before ++ (after ++ cond t [] (d ∷ [])))
+all_moved : {X : Type 0} (P : X → Type 0) (before : List X) (c d : X) (after : List X) (t : Bool) → P d → AllByRecursion P (before ++ c ∷ after) → AllByRecursion P (before ++ (after ++ cond t [] (d ∷ [])))
 all_moved P [] c d after true k h = All-append P after [] h.1 tt
 all_moved P [] c d after false k h = All-append P after (d ∷ []) h.1 (k, tt)
 all_moved P (x ∷ xs) c d after t k h = (h.0, all_moved P xs c d after t k h.1)
@@ -74,7 +74,7 @@ module _ {R : Type 0} (o : Orderings) (q : Quote) (ns : Notes) (r : Run R) (h : 
       let c = chosen_dark o q r b d a e in
       let n = shares_with r.progress d.remaining in
       let pd = of_dark q s (best_lit o q r.progress r.lits) (best_dark o q r.progress r.lits r.darks) b d a e in
-      let no_better : All (λ x. dark_able q r x ≡ true → better s (price_under q x) (price_under q d) ≡ false) r.darks =
+      let no_better : AllByRecursion (λ x. dark_able q r x ≡ true → better s (price_under q x) (price_under q d) ≡ false) r.darks =
       picked_price (dark_able q r) r.progress.active (dark_kind r.progress.active.form) r.progress.dark o.dark
       (price_of_dark (dark_terms q r.progress.active r.lits)) (view_of_dark (dark_terms q r.progress.active r.lits)) r.darks b d a pd in
       record {
@@ -98,7 +98,7 @@ module _ {R : Type 0} (o : Orderings) (q : Quote) (ns : Notes) (r : Run R) (h : 
       let n = shares_with r.progress l.remaining in
       let left = b ++ (lit_left (lit_after n l) ++ a) in
       let pl = of_lit q s (best_lit o q r.progress r.lits) (best_dark o q r.progress r.lits r.darks) b l a e in
-      let no_better : All (λ x. lit_able q r x ≡ true → better s x.price l.price ≡ false) r.lits =
+      let no_better : AllByRecursion (λ x. lit_able q r x ≡ true → better s x.price l.price ≡ false) r.lits =
       picked_price (lit_able q r) r.progress.active SdlLit r.progress.lit o.lit (price_of_lit (lit_terms q r.progress.active))
       (view_of_lit (lit_terms q r.progress.active)) r.lits b l a pl in
       let priced_before : Priced (b ++ l ∷ a) = rw c.1 at h.priced in
@@ -115,7 +115,7 @@ module _ {R : Type 0} (o : Orderings) (q : Quote) (ns : Notes) (r : Run R) (h : 
         clear = still_clear r.progress.active.form s r.progress.dark n l a b priced_before (rw c.1 at h.clear);
       }
 
-all_of : {X : Type 0} (P : X → Type 0) → ((x : X) → P x) → (xs : List X) → All P xs
+all_of : {X : Type 0} (P : X → Type 0) → ((x : X) → P x) → (xs : List X) → AllByRecursion P xs
 all_of P f [] = tt
 all_of P f (x ∷ xs) = (f x, all_of P f xs)
 

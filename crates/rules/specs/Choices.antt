@@ -1,7 +1,7 @@
 -- Whom an active order meets next is the best of those that it may meet, and nobody else is, for any two priorities that
 -- obey their laws.
 use Rattle.std.specs.Prelude.{◌≡◌, ℕ, Bool, true, false, List}
-use Rattle.std.specs.List.{AllByRecursion as All}
+use Rattle.std.specs.List.{AllByRecursion}
 use Rattle.market.specs.declared.codes.Kind.TheVariants.{SdlLit}
 use Rattle.market.specs.declared.orders.DarkOrder.{DarkOrder}
 use Rattle.market.specs.declared.orders.LitOrder.{LitOrder}
@@ -54,23 +54,23 @@ pub record DarkIsBest {R : Type 0} (o : Orderings) (q : Quote) (r : Run R) (befo
   -- it may be met, and those of its table that are level with it stand after it
   pub best : Best (dark_able q r) (dark_beats o q r) r.darks before d after
   -- no Dark order that may be met beats it
-  pub unbeaten : All (λ x. dark_able q r x ≡ true → dark_beats o q r x d ≡ false) r.darks
+  pub unbeaten : AllByRecursion (λ x. dark_able q r x ≡ true → dark_beats o q r x d ≡ false) r.darks
   -- its price is better for the active order than that of every lit order that may be met
-  pub price : All (λ l. lit_able q r l ≡ true → better r.progress.active.side (price_under q d) l.price ≡ true) r.lits
+  pub price : AllByRecursion (λ l. lit_able q r l ≡ true → better r.progress.active.side (price_under q d) l.price ≡ true) r.lits
 
 -- a lit order is the right choice
 pub record LitIsBest {R : Type 0} (o : Orderings) (q : Quote) (r : Run R) (before : List (LitOrder R)) (l : LitOrder R) (after : List (LitOrder R)) : Type 0 where
   -- it may be met, and those of its table that are level with it stand after it
   pub best : Best (lit_able q r) (lit_beats o q r) r.lits before l after
   -- no lit order that may be met beats it
-  pub unbeaten : All (λ x. lit_able q r x ≡ true → lit_beats o q r x l ≡ false) r.lits
+  pub unbeaten : AllByRecursion (λ x. lit_able q r x ≡ true → lit_beats o q r x l ≡ false) r.lits
   -- no Dark order that may be met has a better price for the active order
-  pub price : All (λ d. dark_able q r d ≡ true → better r.progress.active.side (price_under q d) l.price ≡ false) r.darks
+  pub price : AllByRecursion (λ d. dark_able q r d ≡ true → better r.progress.active.side (price_under q d) l.price ≡ false) r.darks
 
 -- to meet no one is right where nobody may be met
 pub record NoneIsBest {R : Type 0} (q : Quote) (r : Run R) : Type 0 where
-  pub no_dark : All (λ d. dark_able q r d ≡ false) r.darks
-  pub no_lit : All (λ l. lit_able q r l ≡ false) r.lits
+  pub no_dark : AllByRecursion (λ d. dark_able q r d ≡ false) r.darks
+  pub no_lit : AllByRecursion (λ l. lit_able q r l ≡ false) r.lits
 
 -- to meet this order, or no one, is right
 abbrev pub IsBest : {R : Type 0} → Orderings → Quote → Run R → Chosen R → Type 0

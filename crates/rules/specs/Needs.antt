@@ -1,7 +1,7 @@
 -- The need, for one table at one price, is what remained of the active order when its sweep first chose there. A sweep that
 -- notes every choice can look that up; one that remembers only the level last chosen at in each table comes to the same.
 use Rattle.std.specs.Prelude.{◌≡◌, ℕ, Bool, cond, ◌&&◌, ◌||◌, List, [], ◌∷◌, ◌++◌, ◌==◌, ◌≢◌}
-use Rattle.std.specs.List.{AllByRecursion as All}
+use Rattle.std.specs.List.{AllByRecursion}
 use Rattle.market.specs.declared.codes.Kind.{Kind}
 use Rattle.market.specs.declared.codes.Kind.TheVariants.{SdlLit}
 use Rattle.market.specs.declared.orders.DarkOrder.{DarkOrder}
@@ -92,5 +92,5 @@ pub record SameSweep {R : Type 0} (o : Orderings) (q : Quote) (r : Run R) (fs : 
 -- so it is of every sweep from its beginning, whatever the priorities, where every lit order has a price
 abbrev pub NeedIsFirst : Type 0
 NeedIsFirst =
-    (o : Orderings) (q : Quote) (trades : ℕ) (a : Active ℕ) (ds : List (DarkOrder ℕ)) (ls : List (LitOrder ℕ)) → All (λ l. l.price ≢ 0) ls →
+    (o : Orderings) (q : Quote) (trades : ℕ) (a : Active ℕ) (ds : List (DarkOrder ℕ)) (ls : List (LitOrder ℕ)) → AllByRecursion (λ l. l.price ≢ 0) ls →
     (fs : List (Fill ℕ)) (s : Run ℕ) → SameSweep o q (start_of trades a ds ls) fs s

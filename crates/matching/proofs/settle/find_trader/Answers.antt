@@ -1,5 +1,5 @@
 use Rattle.std.proofs.Common.{◌≡◌, ℕ, ◌+◌, true, false, List, [], ◌∷◌, ◌++◌, length, get_or, take, drop, sym, ap, ◌∙◌, subst, ap₂}
-use Rattle.std.specs.List.{AllByRecursion as All}
+use Rattle.std.specs.List.{AllByRecursion}
 use Rattle.std.proofs.lemmas.List.{take_more, take_all, take-append-drop, drop_more, get_or_default}
 use Rattle.std.proofs.ByRecursion.{All-append}
 use Rattle.market.specs.declared.orders.DarkOrder.{DarkOrder}
@@ -15,7 +15,7 @@ loop-i-preserved g c =
     let i = c.loop-i.i in
     let x = c.index-darks-i.result in
     let e : take (i + 1) xs ≡ take i xs ++ x ∷ [] = take_more xs i x c.loop-i-test.true ∙ ap (λ y. take i xs ++ y ∷ []) (sym c.index-darks-i.is) in
-    subst (λ (ys : List (DarkOrder g.row.R.Denot)). All P ys) (sym e) (All-append P (take i xs) (x ∷ []) c.loop-i.invariant (sym c.if-may_trade.ensures, tt))
+    subst (λ (ys : List (DarkOrder g.row.R.Denot)). AllByRecursion P ys) (sym e) (All-append P (take i xs) (x ∷ []) c.loop-i.invariant (sym c.if-may_trade.ensures, tt))
 
 pub returns-then-may_trade : goal.returns-then-may_trade
 unfolding first_to_trade
@@ -39,4 +39,4 @@ unfolding first_to_trade
 returns g c =
     let p = can_trade c.args.quote.now c.args.lits.now c.args.darks.now in
     let xs = c.args.darks.now in
-    first_none p xs (subst (λ (ys : List (DarkOrder g.row.R.Denot)). All (λ d. p d ≡ false) ys) (take_all c.loop-i.i xs c.loop-i-test.false) c.loop-i.invariant)
+    first_none p xs (subst (λ (ys : List (DarkOrder g.row.R.Denot)). AllByRecursion (λ d. p d ≡ false) ys) (take_all c.loop-i.i xs c.loop-i-test.false) c.loop-i.invariant)
