@@ -1,7 +1,7 @@
 -- A queue read from its last place to its first: the best of the places read so far.
-use Rattle.std.proofs.Common.{◌≡◌, ℕ, suc, ◌+◌, ◌-◌, ◌<◌, ◌≤◌, Bool, true, false, cond, not, ◌&&◌, List, [], ◌∷◌, ◌++◌, length, get_or, take, drop, Some, None, Option, sym, refl, ap, ◌∙◌, arith}
+use Rattle.std.proofs.Common.{◌≡◌, ℕ, suc, ◌+◌, ◌-◌, ◌<◌, ◌≤◌, Bool, true, false, List, [], ◌∷◌, length, get_or, take, drop, Some, None, Option, sym, ap, ◌∙◌, arith}
 use Rattle.std.proofs.lemmas.List.{drop_more, get_or_default}
-use Rattle.matching.specs.Choice.{Pick, nobody, found, join, pick}
+use Rattle.matching.specs.Choice.{Pick, nobody, found, pick}
 
 -- the best of the places from i on
 abbrev pub BestFrom : {X : Type 0} → List X → ℕ → Option ℕ → Pick X → Type 0

@@ -1,5 +1,5 @@
 -- What a sweep spends: each fill ends an order, so fills are no more than the orders at hand.
-use Rattle.std.proofs.Common.{◌≡◌, ℕ, ◌+◌, ◌-◌, ◌<◌, ◌≤◌, min, Bool, true, false, cond, ◌&&◌, eqb, ltb, List, [], ◌∷◌, ◌++◌, length, sym, refl, ap, ◌∙◌, arith}
+use Rattle.std.proofs.Common.{◌≡◌, ℕ, ◌+◌, ◌-◌, ◌<◌, ◌≤◌, min, Bool, true, false, cond, ◌&&◌, eqb, ltb, List, [], ◌∷◌, ◌++◌, length, refl, ap, ◌∙◌, arith}
 use Rattle.std.proofs.lemmas.List.{length-append}
 use Rattle.std.proofs.lemmas.Bool.Decides.{nat_tests}
 use Rattle.std.proofs.lemmas.Bool.{and_parts, ltb-true}
@@ -9,9 +9,9 @@ use Rattle.market.specs.declared.orders.DarkOrder.{DarkOrder}
 use Rattle.market.specs.declared.orders.LitOrder.{LitOrder}
 use Rattle.market.specs.declared.orders.Fill.{Fill}
 use Rattle.market.specs.declared.quotes.Quote.{Quote}
-use Rattle.matching.specs.Choice.{Pick, nobody, found, pick}
+use Rattle.matching.specs.Choice.{Pick, nobody, found}
 use Rattle.matching.specs.Meets.{may_meet_dark, may_meet_lit}
-use Rattle.matching.specs.Sweep.{Orderings, Run, Chosen, no_one, dark, lit, better_of, best_lit, best_dark, choice, price_under, dark_terms, lit_terms, dark_after, lit_after, dark_left, lit_left, Swept, ends, meets_dark, meets_lit}
+use Rattle.matching.specs.Sweep.{Orderings, Run, dark, lit, better_of, best_lit, best_dark, choice, price_under, dark_terms, lit_terms, dark_after, lit_after, dark_left, lit_left, Swept, ends, meets_dark, meets_lit}
 use Rattle.matching.proofs.Picks.{picked_able}
 
 -- a chosen order is one of the two picked

@@ -7,8 +7,8 @@ use Rattle.market.specs.declared.quotes.Quote.{Quote}
 use Rattle.market.specs.Prices.{better}
 use Rattle.matching.specs.declared.active.Found.{Found}
 use Rattle.matching.specs.declared.active.Next.TheVariants as next
-use Rattle.matching.specs.Choice.{Pick, nobody, found, Splits}
-use Rattle.matching.specs.Sweep.{Chosen, dark, lit, better_of, next_of, price_under, Finds}
+use Rattle.matching.specs.Choice.{Pick, Splits}
+use Rattle.matching.specs.Sweep.{dark, lit, better_of, next_of, price_under, Finds}
 
 -- a list with a place in it has an element
 one_of : {X : Type 0} (xs : List X) (i : ℕ) → i < length xs → X

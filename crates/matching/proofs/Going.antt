@@ -1,5 +1,5 @@
 -- A sweep under way: whatever follows from here, follows from the start after what was made.
-use Rattle.std.proofs.Common.{◌≡◌, ℕ, ◌+◌, ◌<◌, Bool, true, false, ◌&&◌, ltb, List, [], ◌∷◌, ◌++◌, length, sym, refl, ap, ◌∙◌, subst, ap₂}
+use Rattle.std.proofs.Common.{◌≡◌, Bool, false, ltb, List, [], ◌∷◌, ◌++◌, sym, refl, ap, subst, ap₂}
 use Rattle.std.proofs.lemmas.List.{append-nil, append_assoc}
 use Rattle.market.specs.declared.orders.DarkOrder.{DarkOrder}
 use Rattle.market.specs.declared.orders.LitOrder.{LitOrder}
@@ -8,9 +8,8 @@ use Rattle.market.specs.declared.quotes.Quote.{Quote}
 use Rattle.queue.specs.declared.queue.Queue.{Queue}
 use Rattle.queue.specs.Queues.{Appended}
 use Rattle.queue.proofs.Appends.{appended_none, appended_then}
-use Rattle.matching.specs.declared.active.Progress.{Progress}
-use Rattle.matching.specs.Choice.{Pick, nobody, found, pick}
-use Rattle.matching.specs.Sweep.{Orderings, Run, Chosen, no_one, dark, lit, better_of, best_lit, best_dark, choice, price_under, after_dark, after_lit, dark_fill, lit_fill, Swept, ends, meets_dark, meets_lit, Sweeps}
+use Rattle.matching.specs.Choice.{nobody, pick}
+use Rattle.matching.specs.Sweep.{Orderings, Run, no_one, dark, lit, better_of, choice, price_under, after_dark, after_lit, dark_fill, lit_fill, Swept, ends, meets_dark, meets_lit, Sweeps}
 
 pub same_run : {R : Type 0} (r s : Run R) → r.progress ≡ s.progress → r.darks ≡ s.darks → r.lits ≡ s.lits → r ≡ s
 same_run r s p q t = λ i. record { progress = p i; darks = q i; lits = t i }

@@ -1,13 +1,10 @@
 -- A sweep, and settling, come out one way only.
-use Rattle.std.proofs.Common.{◌≡◌, List, [], ◌∷◌, ◌++◌, sym, refl, ap, subst, ap₂, subst₂}
+use Rattle.std.proofs.Common.{◌≡◌, List, ◌∷◌, ◌++◌, sym, refl, ap₂, subst₂}
 use mathlib.Core.Path.{subst₃}
-use Rattle.market.specs.declared.orders.DarkOrder.{DarkOrder}
-use Rattle.market.specs.declared.orders.LitOrder.{LitOrder}
 use Rattle.market.specs.declared.orders.Fill.{Fill}
 use Rattle.market.specs.declared.quotes.Quote.{Quote}
-use Rattle.matching.specs.Choice.{Pick, nobody, found}
-use Rattle.matching.specs.Sweep.{Orderings, Run, Chosen, no_one, dark, lit, choice, price_under, after_dark, after_lit, dark_fill, lit_fill, Swept, ends, meets_dark, meets_lit}
-use Rattle.matching.specs.Settle.{Contents, quote_in, active_dark, start_of, after_sweep, first_to_trade, Settles, settled, sweeps}
+use Rattle.matching.specs.Sweep.{Orderings, Run, price_under, after_dark, after_lit, dark_fill, lit_fill, Swept, ends, meets_dark, meets_lit}
+use Rattle.matching.specs.Settle.{Contents, quote_in, active_dark, start_of, after_sweep, Settles, settled, sweeps}
 
 module _ {R : Type 0} (o : Orderings) where
   pub swept_once : {q : Quote} {r s t : Run R} {fs gs : List (Fill R)} → Swept o q r fs s → Swept o q r gs t → (fs ≡ gs) × (s ≡ t)

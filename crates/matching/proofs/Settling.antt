@@ -1,5 +1,5 @@
 -- Settling under way: whatever settles from here, settles from the start after what was made; and every round has a fill.
-use Rattle.std.proofs.Common.{◌≡◌, ℕ, ◌+◌, ◌-◌, ◌<◌, ◌≤◌, min, Bool, true, false, cond, not, ◌&&◌, ◌||◌, eqb, ltb, List, [], ◌∷◌, ◌++◌, length, get_or, take, drop, Some, sym, refl, ap, ◌∙◌, subst, ap₂, subst₂, arith}
+use Rattle.std.proofs.Common.{◌≡◌, ℕ, ◌+◌, ◌≤◌, Bool, true, false, cond, ltb, List, [], ◌∷◌, ◌++◌, length, get_or, take, drop, Some, sym, refl, ap, ◌∙◌, subst, subst₂, arith}
 use mathlib.Core.Path.{subst₃}
 use Rattle.std.specs.List.{AllByRecursion}
 use Rattle.std.proofs.lemmas.List.{append-nil, append_assoc, length-append}
@@ -16,10 +16,10 @@ use Rattle.market.specs.Prices.{better}
 use Rattle.queue.specs.declared.queue.Queue.{Queue}
 use Rattle.queue.specs.Queues.{Appended, without}
 use Rattle.queue.proofs.Appends.{appended_none, appended_then}
-use Rattle.matching.specs.Choice.{Pick, nobody, found, join, pick, first}
-use Rattle.matching.specs.Meets.{may_meet_dark, price_of_dark, meets_dark}
-use Rattle.matching.specs.Sweep.{Orderings, Run, Chosen, no_one, dark, lit, better_of, best_lit, best_dark, choice, price_under, dark_terms, dark_left, Swept, ends, meets_dark as with_dark, meets_lit as with_lit}
-use Rattle.matching.specs.Settle.{Contents, quote_in, active_dark, start_of, dark_kept, after_sweep, Place, some_in, can_trade, first_to_trade, Settles, settled, sweeps, SweptDark, Settled}
+use Rattle.matching.specs.Choice.{Pick, nobody, found, join, first}
+use Rattle.matching.specs.Meets.{may_meet_dark}
+use Rattle.matching.specs.Sweep.{Orderings, Run, no_one, dark, lit, better_of, best_lit, best_dark, choice, price_under, dark_terms, dark_left, Swept, ends, meets_dark as with_dark, meets_lit as with_lit}
+use Rattle.matching.specs.Settle.{Contents, quote_in, active_dark, start_of, dark_kept, Place, some_in, can_trade, first_to_trade, Settles, settled, sweeps, SweptDark, Settled}
 use Rattle.matching.proofs.Counts.{left_length, swept_count, swept_trades}
 use Rattle.matching.proofs.Picks.{some_split, none_picked, picked_able}
 

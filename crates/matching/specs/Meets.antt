@@ -1,5 +1,5 @@
 -- Who may meet whom.
-use Rattle.std.specs.Prelude.{ℕ, Bool, true, false, not, ◌&&◌, ◌||◌, ◌==◌, nat_le, nat_lt}
+use Rattle.std.specs.Prelude.{ℕ, Bool, true, false, not, ◌&&◌, ◌==◌, nat_le, nat_lt}
 use Rattle.market.specs.declared.codes.Side.{Side}
 use Rattle.market.specs.declared.codes.Peg.{Peg}
 use Rattle.market.specs.declared.codes.Peg.TheVariants as peg

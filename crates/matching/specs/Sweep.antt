@@ -1,5 +1,5 @@
 -- The sweep of an active order.
-use Rattle.std.specs.Prelude.{◌≡◌, ℕ, ◌+◌, ◌-◌, ◌<◌, min, Bool, true, false, cond, not, ◌&&◌, ◌||◌, List, [], ◌∷◌, ◌++◌, length, get_or, take, drop, Some, None, Option, ◌==◌, slice_index_or}
+use Rattle.std.specs.Prelude.{◌≡◌, ℕ, ◌+◌, ◌-◌, ◌<◌, min, cond, List, [], ◌∷◌, ◌++◌, length, take, drop, Some, None, Option, ◌==◌, slice_index_or}
 use Rattle.market.specs.declared.codes.Side.{Side}
 use Rattle.market.specs.declared.codes.Side.TheVariants.{Buy, Sell}
 use Rattle.market.specs.declared.codes.Kind.{Kind}
@@ -193,7 +193,7 @@ Finds {R} q ds ls (next.Dark f) c =
     × ((d : DarkOrder R) → f.price ≡ price_under q (slice_index_or ds f.at d))
 Finds {R} q ds ls (next.Lit f) c =
     (f.at < length ls) × ((l : LitOrder R) → c ≡ lit (take f.at ls) (slice_index_or ls f.at l) (drop (f.at + 1) ls))
-    × ((l : LitOrder R) → f.price ≡ (get_or ls f.at l).price)
+    × ((l : LitOrder R) → f.price ≡ (slice_index_or ls f.at l).price)
 
 -- a sweep from r to s, its fills appended to the fill list
 pub record Sweeps {R : Type 0} (o : Orderings) (q : Quote) (r : Run R) (was : Queue (Fill R)) (s : Run R) (list : Queue (Fill R)) : Type 0 where

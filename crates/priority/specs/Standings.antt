@@ -1,5 +1,5 @@
 -- The orderings that the priorities mean.
-use Rattle.std.specs.Prelude.{Bool, true, false, not, ◌&&◌, ◌||◌, ℕ, eqb, leb}
+use Rattle.std.specs.Prelude.{Bool, true, false, not, ◌&&◌, ◌||◌, ◌==◌, nat_le}
 use Rattle.market.specs.declared.codes.Kind.{Kind}
 use Rattle.market.specs.declared.codes.Kind.TheVariants.{SdlDark, SdlLit, DarkDark}
 use Rattle.priority.specs.declared.standing.Standing.{Standing}
@@ -40,8 +40,8 @@ marks_count DarkDark = true
 
 -- the resting order is of the active order's member; where marks count, a marked order is nobody's
 abbrev pub own_order : ActiveView → RestingView → Bool
-own_order q a = eqb q.member a.member && (not (marks_count q.kind) || (not q.jitney && not a.jitney))
+own_order q a = q.member == a.member && (not (marks_count q.kind) || (not q.jitney && not a.jitney))
 
 -- the resting order has as many shares as the active order needs
 abbrev pub enough_shares : ActiveView → RestingView → Bool
-enough_shares q a = leb q.need a.remaining
+enough_shares q a = nat_le q.need a.remaining

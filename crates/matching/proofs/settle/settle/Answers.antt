@@ -1,10 +1,10 @@
-use Rattle.std.proofs.Common.{◌≡◌, ◌+◌, ◌<◌, ◌≤◌, List, length, take, drop, sym, ap, ◌∙◌, arith}
+use Rattle.std.proofs.Common.{◌≡◌, ◌+◌, List, length, take, drop, sym, ap, ◌∙◌, arith}
 use mathlib.Core.Path.{subst₃}
 use Rattle.market.specs.declared.orders.DarkOrder.{DarkOrder}
 use Rattle.market.specs.declared.orders.LitOrder.{LitOrder}
 use Rattle.market.specs.declared.quotes.Quote.{Quote}
 use Rattle.market.specs.Quotes.{quote_of}
-use Rattle.queue.specs.Queues.{queued, without}
+use Rattle.queue.specs.Queues.{queued}
 use Rattle.queue.proofs.Appends.{same_self, same_then, queued_length, appended_length}
 use Rattle.matching.specs.Choice.{nobody}
 use Rattle.matching.specs.Sweep.{Orderings}

@@ -1,10 +1,10 @@
-use Rattle.std.proofs.Common.{◌≡◌, ℕ, ◌+◌, ◌≤◌, List, ◌++◌, length, None, sym, refl, ap, ◌∙◌, subst, ap₂, arith}
+use Rattle.std.proofs.Common.{List, ◌++◌, refl, ap, ◌∙◌, subst, arith}
 use Rattle.market.specs.declared.orders.DarkOrder.{DarkOrder}
 use Rattle.queue.specs.Queues.{queued}
 use Rattle.queue.proofs.Appends.{same_then, queued_length}
 use Rattle.matching.specs.declared.active.Active.{Active}
 use Rattle.matching.specs.Sweep.{Orderings, Run, dark_left, Sweeps}
-use Rattle.matching.specs.Settle.{Contents, active_dark, start_of, dark_kept, after_sweep}
+use Rattle.matching.specs.Settle.{start_of}
 use Rattle.matching.proofs.Counts.{swept_shorter}
 use Rattle.matching.proofs.settle.sweep_dark.Goals as goal
 

@@ -1,4 +1,4 @@
-use Rattle.std.proofs.Common.{◌≡◌, ℕ, List, length, take, sym, ap, ◌∙◌, subst, ap₂, subst₂}
+use Rattle.std.proofs.Common.{ℕ, List, sym, ap, ◌∙◌, subst}
 use mathlib.Core.Path.{subst₃}
 use Rattle.market.specs.declared.codes.Kind.{Kind}
 use Rattle.market.specs.declared.codes.Kind.TheVariants.{SdlLit}
@@ -11,7 +11,7 @@ use Rattle.matching.specs.declared.active.LitTerms.{LitTerms}
 use Rattle.matching.specs.declared.active.Next.{Next}
 use Rattle.matching.specs.Choice.{pick, beats, Splits}
 use Rattle.matching.specs.Meets.{may_meet_dark, may_meet_lit, price_of_dark, price_of_lit, view_of_dark, view_of_lit}
-use Rattle.matching.specs.Sweep.{Orderings, Run, best_lit, best_dark, choice, price_under, Finds}
+use Rattle.matching.specs.Sweep.{Orderings, best_lit, best_dark, choice, price_under, Finds}
 use Rattle.matching.proofs.Finding.{finds}
 use Rattle.matching.proofs.sweep.next.Goals as goal
 

@@ -1,7 +1,6 @@
-use Rattle.std.proofs.Common.{◌≡◌, ℕ, ◌+◌, ◌<◌, ◌≤◌, min, List, [], ◌∷◌, length, get_or, take, drop, sym, refl, ap, ◌∙◌, subst, arith}
+use Rattle.std.proofs.Common.{◌≡◌, ℕ, ◌+◌, [], ◌∷◌, get_or, take, drop, sym, refl, ap, ◌∙◌, subst, arith}
 use Rattle.market.specs.declared.orders.DarkOrder.{DarkOrder}
 use Rattle.market.specs.declared.orders.LitOrder.{LitOrder}
-use Rattle.market.specs.declared.orders.Fill.{Fill}
 use Rattle.queue.specs.Queues.{queued, Appended}
 use Rattle.queue.proofs.Appends.{same_self, same_then}
 use Rattle.matching.specs.declared.active.Progress.{Progress}
