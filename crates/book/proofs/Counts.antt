@@ -1,11 +1,11 @@
 -- How many fills a request and settling make, and how many orders they leave.
-use Rattle.std.proofs.Common.{◌≡◌, ℕ, ◌+◌, ◌≤◌, min, List, [], ◌∷◌, ◌++◌, length, ap, ◌∙◌, arith}
+use Rattle.std.proofs.Common.{◌≡◌, ℕ, ◌+◌, ◌≤◌, List, [], ◌∷◌, length, arith}
 use Rattle.std.proofs.lemmas.List.{length-append}
 use Rattle.market.specs.declared.orders.Fill.{Fill}
-use Rattle.matching.specs.Sweep.{Run, dark_left}
+use Rattle.matching.specs.Sweep.{dark_left}
 use Rattle.matching.specs.Settle.{Contents, dark_kept}
 use Rattle.matching.proofs.Counts.{left_length, swept_count, swept_trades}
-use Rattle.matching.proofs.Settling.{settles_count, settles_trades}
+use Rattle.matching.proofs.Settling.{settles_count}
 use Rattle.book.specs.declared.session.Session.{Session}
 use Rattle.book.specs.declared.call.Request.{Request}
 use Rattle.book.specs.Grounds.{Facility}

@@ -1,5 +1,5 @@
 -- Sixteen members with at most sixteen orders each in a table; and where one of them has fewer, there is a place.
-use Rattle.std.proofs.Common.{◌≡◌, ℕ, zero, suc, ◌+◌, ◌*◌, ◌<◌, ◌≤◌, Bool, true, false, ◌&&◌, eqb, leb, ◌⊎◌, List, [], ◌∷◌, length, refl, inl, inr, ⊎_elim, arith}
+use Rattle.std.proofs.Common.{◌≡◌, ℕ, zero, suc, ◌+◌, ◌*◌, ◌<◌, ◌≤◌, Bool, true, false, eqb, leb, ◌⊎◌, List, [], ◌∷◌, length, refl, inl, inr, ⊎_elim, arith}
 use Rattle.std.proofs.lemmas.Bool.{leb-true, leb-false, and_parts, cases_eq, eq-eqb, ne_eqb}
 use Rattle.market.specs.Orders.{valid_member}
 use Rattle.book.specs.Grounds.{count, of_member, all_in}

@@ -1,12 +1,12 @@
 -- From what was acted and settled to the whole call.
-use Rattle.std.proofs.Common.{◌≡◌, ℕ, ◌+◌, ◌≤◌, List, [], ◌∷◌, ◌++◌, length, take, drop, Some, None, Ok, Err, sym, refl, ap, ◌∙◌, subst, ap₂, subst₂, arith}
+use Rattle.std.proofs.Common.{◌≡◌, ℕ, ◌+◌, List, [], ◌++◌, length, take, drop, Some, None, Ok, Err, sym, refl, ap, ◌∙◌, subst, ap₂, subst₂, arith}
 use Rattle.market.specs.declared.ground.Ground.{Ground}
 use Rattle.market.specs.declared.orders.DarkOrder.{DarkOrder}
 use Rattle.market.specs.declared.orders.LitOrder.{LitOrder}
 use Rattle.market.specs.declared.orders.Fill.{Fill}
 use Rattle.market.specs.declared.quotes.Away.{Away}
 use Rattle.queue.specs.declared.queue.Queue.{Queue}
-use Rattle.queue.specs.Queues.{queued, Appended}
+use Rattle.queue.specs.Queues.{queued}
 use Rattle.queue.proofs.Appends.{appended_length}
 use Rattle.matching.specs.Settle.{Contents}
 use Rattle.book.specs.declared.session.Session.{Session}

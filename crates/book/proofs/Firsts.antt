@@ -1,5 +1,5 @@
 -- Which ground is the first to hold.
-use Rattle.std.proofs.Common.{◌≡◌, ℕ, Bool, true, false, cond, Some, None, Option}
+use Rattle.std.proofs.Common.{◌≡◌, ℕ, Bool, true, false, cond, Some, Option}
 use Rattle.market.specs.declared.ground.Ground.{Ground}
 use Rattle.market.specs.declared.ground.Ground.TheVariants as ground
 use Rattle.book.specs.declared.call.Call.{Call}

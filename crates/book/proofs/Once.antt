@@ -1,6 +1,5 @@
 -- A call comes out one way only.
-use Rattle.std.proofs.Common.{◌≡◌, ℕ, ◌-◌, List, [], ◌∷◌, ◌++◌, length, Some, None, Ok, Err, Option, sym, refl, ap, ◌∙◌, subst, ap₂, subst₂}
-use Rattle.market.specs.declared.ground.Ground.{Ground}
+use Rattle.std.proofs.Common.{◌≡◌, ℕ, ◌-◌, List, ◌++◌, length, Ok, Err, sym, refl, ap, subst, ap₂}
 use Rattle.market.specs.declared.orders.Fill.{Fill}
 use Rattle.matching.specs.Sweep.{Run}
 use Rattle.matching.specs.Settle.{Contents, after_sweep}
@@ -8,9 +7,8 @@ use Rattle.matching.proofs.Once.{swept_once, settles_once}
 use Rattle.book.specs.declared.session.Session.{Session}
 use Rattle.book.specs.declared.call.Call.{Call}
 use Rattle.book.specs.declared.call.Request.{Request}
-use Rattle.book.specs.Requests.{request_of}
 use Rattle.book.specs.Sessions.{session_then}
-use Rattle.book.specs.Grounds.{Facility, State, Memory, ground_of}
+use Rattle.book.specs.Grounds.{Facility, State, Memory}
 use Rattle.book.specs.Steps.{after_seek, Acts, quotes, joins, enters, seeks, posts, starts, Settling, rests, runs, Answer, Step, refused, accepted}
 
 module _ {R : Type 0} (f : Facility R) where

@@ -1,5 +1,5 @@
 -- What is known once no ground holds.
-use Rattle.std.proofs.Common.{◌≡◌, ℕ, ◌<◌, ◌≤◌, Bool, true, false, cond, not, ◌&&◌, eqb, ltb, leb, List, [], ◌∷◌, length, Some, None, Option, refl, ap, ◌∙◌, subst, subst₂, arith}
+use Rattle.std.proofs.Common.{◌≡◌, ℕ, ◌<◌, ◌≤◌, Bool, true, false, cond, not, ◌&&◌, eqb, leb, List, [], ◌∷◌, length, Some, None, Option, refl, subst, subst₂, arith}
 use Rattle.std.proofs.lemmas.Bool.{and_parts, eqb-true, leb-true, ltb-false}
 use Rattle.std.specs.List.{AllByRecursion}
 use Rattle.market.specs.declared.ground.Ground.{Ground}
@@ -8,14 +8,13 @@ use Rattle.market.specs.declared.orders.LitOrder.{LitOrder}
 use Rattle.std.proofs.lemmas.Bool.Decides.{nat_tests}
 use Rattle.market.specs.Lots.{valid_lot}
 use Rattle.market.specs.Orders.{valid_member, sound_dark, sound_lit}
-use Rattle.matching.specs.Settle.{Contents}
 use Rattle.book.specs.declared.call.Call.{Call}
 use Rattle.book.specs.declared.call.Call.TheVariants as call
 use Rattle.book.specs.declared.call.SdlOrder.{SdlOrder}
 use Rattle.book.specs.declared.call.Request.{Request}
 use Rattle.book.specs.declared.call.Request.TheVariants as request
 use Rattle.book.specs.Requests.{request_of, as_dark, as_sdl, as_lit, dark_of, sdl_of, lit_of}
-use Rattle.book.specs.Grounds.{State, Memory, enough_memory, count, of_member, dark_owner, lit_owner, all_in, fine_dark, fine_lit, sound_tables, memory_fails, Check, first_of, checks, ground_under, member_fails, full_fails}
+use Rattle.book.specs.Grounds.{State, Memory, enough_memory, count, of_member, dark_owner, lit_owner, all_in, fine_dark, fine_lit, sound_tables, Check, first_of, checks, ground_under, member_fails, full_fails}
 use Rattle.book.specs.Steps.{HasPlace}
 use Rattle.book.proofs.Crowd.{has_place}
 

@@ -6,7 +6,6 @@ use Rattle.market.specs.declared.ground.Ground.{Ground}
 use Rattle.market.specs.declared.ground.Ground.TheVariants as ground
 use Rattle.market.specs.declared.orders.DarkOrder.{DarkOrder}
 use Rattle.market.specs.declared.orders.LitOrder.{LitOrder}
-use Rattle.market.specs.declared.quotes.Away.{Away}
 use Rattle.market.specs.declared.quotes.Quote.{Quote}
 use Rattle.market.specs.Lots.{valid_quantity, valid_minimum}
 use Rattle.market.specs.Orders.{valid_member, sound_dark, sound_lit}

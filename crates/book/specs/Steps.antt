@@ -1,5 +1,5 @@
 -- A call on a book: refused by the first ground that holds, with nothing changed; or accepted, acted on, and settled.
-use Rattle.std.specs.Prelude.{◌≡◌, ℕ, ◌-◌, ◌<◌, Bool, true, false, cond, List, [], ◌∷◌, ◌++◌, length, take, drop, Some, None, Ok, Err, Option, Result, ◌==◌}
+use Rattle.std.specs.Prelude.{◌≡◌, ℕ, ◌-◌, ◌<◌, true, false, cond, List, [], ◌∷◌, ◌++◌, length, take, drop, Some, None, Ok, Err, Result, ◌==◌}
 use Rattle.market.specs.declared.ground.Ground.{Ground}
 use Rattle.market.specs.declared.ground.Ground.TheVariants as ground
 use Rattle.market.specs.Lots.{valid_lot}

@@ -1,11 +1,10 @@
-use Rattle.std.proofs.Common.{◌≡◌, List, [], ◌∷◌, ◌++◌, sym, refl, ap, ◌∙◌, subst, subst₂}
+use Rattle.std.proofs.Common.{List, [], sym, refl, subst, subst₂}
 use Rattle.market.specs.declared.orders.LitOrder.{LitOrder}
 use Rattle.queue.specs.Queues.{queued}
 use Rattle.queue.proofs.Appends.{same_self, appended_none}
 use Rattle.matching.specs.Sweep.{Orderings}
 use Rattle.matching.specs.Settle.{Contents}
 use Rattle.book.specs.declared.call.Request.{Request}
-use Rattle.book.specs.declared.call.Request.TheVariants.{Quote, Lit, Start}
 use Rattle.book.specs.Grounds.{Facility}
 use Rattle.book.specs.Steps.{Acts, quotes, posts, starts}
 use Rattle.book.proofs.act.act.Goals as goal

@@ -1,4 +1,4 @@
-use Rattle.std.proofs.Common.{◌≡◌, ℕ, ◌-◌, ◌≤◌, None, sym, refl, ap, ◌∙◌, subst, subst₂, arith}
+use Rattle.std.proofs.Common.{◌≡◌, refl, ap, ◌∙◌, subst₂, arith}
 use Rattle.market.specs.declared.quotes.Quote.{Quote}
 use Rattle.market.specs.Quotes.{quote_of}
 use Rattle.queue.specs.Queues.{queued}

@@ -1,10 +1,10 @@
-use Rattle.std.proofs.Common.{◌≡◌, ◌≤◌, List, length, take, sym, ap, ◌∙◌, ap₂, arith}
+use Rattle.std.proofs.Common.{◌≡◌, List, length, take, sym, ap, ◌∙◌, ap₂, arith}
 use Rattle.market.specs.declared.orders.DarkOrder.{DarkOrder}
 use Rattle.market.specs.declared.orders.LitOrder.{LitOrder}
 use Rattle.std.proofs.lemmas.List.{length-take}
 use Rattle.book.proofs.Passed.{memory_good}
 use Rattle.std.proofs.lemmas.Bool.{lt-ltb, le-ltb}
-use Rattle.book.specs.Grounds.{State, Memory, is_none, memory_fails, sound_tables, field_checks, first_of}
+use Rattle.book.specs.Grounds.{State, Memory, is_none, sound_tables, field_checks, first_of}
 use Rattle.book.proofs.Firsts.{for_closed, for_memory, for_trades, for_member, for_code, for_session, for_fields}
 use Rattle.book.proofs.admit.admit.Goals as goal
 

@@ -1,4 +1,4 @@
-use Rattle.std.proofs.Common.{◌≡◌, ◌≤◌, not, ◌&&◌, length, take, sym, ap, ◌∙◌, ap₂, arith}
+use Rattle.std.proofs.Common.{not, ◌&&◌, length, take, sym, ap, ◌∙◌, ap₂, arith}
 use Rattle.std.proofs.lemmas.List.{length-take}
 use Rattle.book.specs.Grounds.{Memory, sound_tables}
 use Rattle.book.proofs.Passed.{long_enough}

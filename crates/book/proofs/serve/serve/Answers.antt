@@ -1,5 +1,4 @@
-use Rattle.std.proofs.Common.{◌≡◌, ◌+◌, ◌<◌, ◌≤◌, length, take, sym, refl, ap, ◌∙◌, ap₂, arith, rules}
-use Rattle.book.specs.Grounds.{Facility}
+use Rattle.std.proofs.Common.{length, take, sym, ap, ◌∙◌, ap₂, arith, rules}
 use Rattle.book.proofs.Finish.{ran}
 use Rattle.book.proofs.Passed.{same_place}
 use Rattle.book.proofs.serve.serve.Goals as goal

@@ -1,4 +1,4 @@
-use Rattle.std.proofs.Common.{◌≡◌, ℕ, ◌+◌, ◌≤◌, List, length, ◌∙◌, subst, arith}
+use Rattle.std.proofs.Common.{ℕ, ◌∙◌, subst, arith}
 use Rattle.queue.specs.Queues.{queued}
 use Rattle.queue.proofs.Appends.{queued_length, appended_then, appended_length}
 use Rattle.matching.specs.Settle.{Contents}

@@ -1,4 +1,4 @@
-use Rattle.std.proofs.Common.{◌≡◌, ◌+◌, ◌≤◌, true, false, drop, sym, ap, ◌∙◌, arith}
+use Rattle.std.proofs.Common.{◌+◌, drop, sym, ap, ◌∙◌, arith}
 use Rattle.book.specs.Grounds.{count, named}
 use Rattle.book.proofs.Tallies.{one_counted, none_counted, all_counted}
 use Rattle.book.proofs.tables.count_named.Goals as goal
