@@ -1,5 +1,6 @@
 -- The grounds of refusal: each a test of the call and the book, in the order in which they are checked.
-use Rattle.std.specs.Prelude.{◌≡◌, ℕ, ◌+◌, Bool, true, false, cond, not, ◌&&◌, ◌||◌, List, [], ◌∷◌, Some, None, Ok, Err, Option, Result, ◌==◌, nat_le, nat_lt}
+use Rattle.std.specs.Prelude.{◌≡◌, ℕ, ◌+◌, Bool, false, cond, not, ◌&&◌, ◌||◌, List, [], ◌∷◌, Some, None, Ok, Err, Option, Result, ◌==◌, nat_le, nat_lt, count_by, is_none, is_some}
+use Rattle.std.specs.List.{list_all}
 use Rattle.market.specs.declared.codes.Side.{Side}
 use Rattle.market.specs.declared.codes.Side.TheVariants.{Buy, Sell}
 use Rattle.market.specs.declared.ground.Ground.{Ground}
@@ -47,18 +48,6 @@ pub record Memory : Type 0 where
 abbrev pub enough_memory : Memory → Bool
 enough_memory m = m.darks == 256 && (m.lits == 256 && nat_le 513 m.fills)
 
-abbrev pub counted : Bool → ℕ → ℕ
-counted t n = cond t (n + 1) n
-
--- how many pass a test
-abbrev pub count : {X : Type 0} → (X → Bool) → List X → ℕ
-count p [] = 0
-count p (x ∷ xs) = counted (p x) (count p xs)
-
-abbrev pub all_in : {X : Type 0} → (X → Bool) → List X → Bool
-all_in p [] = true
-all_in p (x ∷ xs) = p x && all_in p xs
-
 -- an order of the member, whichever table it rests in
 abbrev pub of_member : {X : Type 0} → (X → ℕ) → ℕ → X → Bool
 of_member owner m x = owner x == m
@@ -67,37 +56,43 @@ of_member owner m x = owner x == m
 abbrev pub named : {X R : Type 0} → (R → ℕ) → (X → ℕ) → (X → R) → ℕ → R → X → Bool
 named number owner label m r x = owner x == m && number (label x) == number r
 
+-- whose a Dark order is
 abbrev pub dark_owner : {R : Type 0} → DarkOrder R → ℕ
 dark_owner d = d.member
 
+-- what a Dark order is called by
 abbrev pub dark_label : {R : Type 0} → DarkOrder R → R
 dark_label d = d.reference
 
+-- whose a lit order is
 abbrev pub lit_owner : {R : Type 0} → LitOrder R → ℕ
 lit_owner l = l.member
 
+-- what a lit order is called by
 abbrev pub lit_label : {R : Type 0} → LitOrder R → R
 lit_label l = l.reference
 
 -- how many orders of the member rest under this reference, in both tables
 abbrev pub times_named : {R : Type 0} → (R → ℕ) → List (DarkOrder R) → List (LitOrder R) → ℕ → R → ℕ
-times_named number ds ls m r = count (named number dark_owner dark_label m r) ds + count (named number lit_owner lit_label m r) ls
+times_named number ds ls m r = count_by (named number dark_owner dark_label m r) ds + count_by (named number lit_owner lit_label m r) ls
 
 -- an order that may stand in its table: it obeys the rule for resting orders, it is one of at most 16 of its member
 -- there, and its reference stands once in the two tables
 abbrev pub fine : {X R : Type 0} → (R → ℕ) → (X → ℕ) → (X → R) → (X → Bool) → List X → List (DarkOrder R) → List (LitOrder R) → X → Bool
 fine number owner label sound own ds ls x =
-    sound x && (nat_le (count (of_member owner (owner x)) own) 16 && nat_le (times_named number ds ls (owner x) (label x)) 1)
+    sound x && (nat_le (count_by (of_member owner (owner x)) own) 16 && nat_le (times_named number ds ls (owner x) (label x)) 1)
 
+-- a Dark order that may stand in its table
 abbrev pub fine_dark : {R : Type 0} → (R → ℕ) → ℕ → List (DarkOrder R) → List (LitOrder R) → DarkOrder R → Bool
 fine_dark number lot ds ls = fine number dark_owner dark_label (sound_dark number lot) ds ds ls
 
+-- a lit order that may stand in its table
 abbrev pub fine_lit : {R : Type 0} → (R → ℕ) → ℕ → List (DarkOrder R) → List (LitOrder R) → LitOrder R → Bool
 fine_lit number lot ds ls = fine number lit_owner lit_label (sound_lit number lot) ls ds ls
 
 -- what rests could rest
 unfoldable pub sound_tables : {R : Type 0} → (R → ℕ) → ℕ → List (DarkOrder R) → List (LitOrder R) → Bool
-sound_tables number lot ds ls = all_in (fine_dark number lot ds ls) ds && all_in (fine_lit number lot ds ls) ls
+sound_tables number lot ds ls = list_all (fine_dark number lot ds ls) ds && list_all (fine_lit number lot ds ls) ls
 
 -- ground 3
 abbrev pub memory_fails : {R : Type 0} → (R → ℕ) → ℕ → Contents R → Memory → Bool
@@ -115,17 +110,9 @@ member_fails (call.Sdl e) = not (valid_member e.member)
 member_fails (call.Lit e) = not (valid_member e.member)
 member_fails call.Start = false
 
-abbrev pub is_none : {X : Type 0} → Option X → Bool
-is_none None = true
-is_none (Some x) = false
-
 -- ground 6: a code is not listed
 abbrev pub code_fails : {R : Type 0} → Call R → Bool
 code_fails c = is_none (request_of c)
-
-abbrev pub is_some : {X : Type 0} → Option X → Bool
-is_some None = false
-is_some (Some x) = true
 
 -- ground 7
 abbrev pub session_fails : {R : Type 0} → Session → Call R → Bool
@@ -188,15 +175,17 @@ if_read p (Some r) = p r
 -- ground 14
 abbrev pub full_fails : {R : Type 0} → Contents R → Call R → Bool
 full_fails c (call.Quote w) = false
-full_fails c (call.Dark e) = nat_le 16 (count (of_member dark_owner e.member) c.darks)
+full_fails c (call.Dark e) = nat_le 16 (count_by (of_member dark_owner e.member) c.darks)
 full_fails c (call.Sdl e) = false
-full_fails c (call.Lit e) = nat_le 16 (count (of_member lit_owner e.member) c.lits)
+full_fails c (call.Lit e) = nat_le 16 (count_by (of_member lit_owner e.member) c.lits)
 full_fails c call.Start = false
 
+-- a ground, and whether it holds
 pub record Check : Type 0 where
   pub ground : Ground
   pub fails : Bool
 
+-- the check of one ground
 abbrev pub on : Ground → Bool → Check
 on g t = record { ground = g; fails = t }
 
@@ -223,6 +212,7 @@ checks number lot s m x =
 unfoldable pub ground_under : {R : Type 0} → (R → ℕ) → ℕ → State R → Memory → Call R → Option Ground
 ground_under number lot s m x = first_of (checks number lot s m x)
 
+-- the ground on which a call is refused at a facility, if any
 abbrev pub ground_of : {R : Type 0} → Facility R → State R → Memory → Call R → Option Ground
 ground_of f s m x = ground_under f.number f.lot s m x
 

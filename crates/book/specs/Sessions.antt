@@ -31,11 +31,13 @@ session_then session.PreOpen (call.Sdl e) = session.PreOpen
 session_then session.PreOpen (call.Lit e) = session.PreOpen
 session_then session.PreOpen call.Start = session.Continuous
 
+-- after the close
 abbrev pub is_closed : Session → Bool
 is_closed session.PreOpen = false
 is_closed session.Continuous = false
 is_closed session.Closed = true
 
+-- between the start of trading and the close
 abbrev pub is_continuous : Session → Bool
 is_continuous session.PreOpen = false
 is_continuous session.Continuous = true

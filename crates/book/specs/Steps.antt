@@ -15,6 +15,8 @@ use Rattle.queue.specs.Queues.{Appended}
 use Rattle.matching.specs.declared.active.Active.{Active}
 use Rattle.matching.specs.declared.active.Priorities.{Priorities}
 use Rattle.matching.specs.declared.active.Form.TheVariants as form
+use Rattle.matching.specs.Tables.{Tables}
+use Rattle.matching.specs.Choice.{Ordering}
 use Rattle.matching.specs.Sweep.{Run, Swept}
 use Rattle.matching.specs.Settle.{Contents, contents_of, quote_in, active_dark, start_of, after_sweep, Settles}
 use Rattle.book.specs.declared.session.Session.{Session}
@@ -25,9 +27,11 @@ use Rattle.book.specs.declared.call.Request.{Request}
 use Rattle.book.specs.declared.call.Request.TheVariants as request
 use Rattle.book.specs.declared.book.Book.{Book}
 use Rattle.book.specs.declared.book.Core.{Core}
+use Rattle.book.specs.declared.memory.Memory.{Memory as Lent}
+use Rattle.book.specs.declared.resting.RestingOrders.{RestingOrders}
 use Rattle.book.specs.Requests.{request_of}
 use Rattle.book.specs.Sessions.{session_then, is_continuous}
-use Rattle.book.specs.Grounds.{Facility, State, Memory, ground_of}
+use Rattle.book.specs.Grounds.{Facility, facility_of, State, Memory, ground_of}
 
 -- the price that an SDL order is valued at: its limit, or at market the opposing best quote
 abbrev pub valued_at : {R : Type 0} → Quote → SdlOrder R → ℕ
@@ -43,15 +47,18 @@ active_sdl lot q s =
       remaining = s.quantity;
       minimum = 0;
       jitney = s.jitney;
-      form = form.Sdl s.limit s.seek (size_class lot s.quantity (valued_at q s));
+      form = form.Sdl (record { limit = s.limit; seek = s.seek; size = size_class lot s.quantity (valued_at q s) });
     }
 
+-- the contents with this quote of the other markets
 abbrev pub with_away : {R : Type 0} → Away → Contents R → Contents R
 with_away w c = record { away = w; trades = c.trades; darks = c.darks; lits = c.lits }
 
+-- the contents with these Dark orders
 abbrev pub with_darks : {R : Type 0} → List (DarkOrder R) → Contents R → Contents R
 with_darks ds c = record { away = c.away; trades = c.trades; darks = ds; lits = c.lits }
 
+-- the contents with these lit orders
 abbrev pub with_lits : {R : Type 0} → List (LitOrder R) → Contents R → Contents R
 with_lits ls c = record { away = c.away; trades = c.trades; darks = c.darks; lits = ls }
 
@@ -87,30 +94,44 @@ pub data Settling {R : Type 0} (f : Facility R) (s : Session) : Contents R → L
 abbrev pub Answer : Type 0
 Answer = Result (ℕ × ℕ × ℕ) Ground
 
+-- a call on a book: its answer, its fills, and the book after it
 pub data Step {R : Type 0} (f : Facility R) (s : State R) (m : Memory) (x : Call R) : Answer → List (Fill R) → State R → Type 0 where
   refused : {g : Ground} → ground_of f s m x ≡ Some g → Step f s m x (Err g) [] s
   accepted : {q : Request R} {c e : Contents R} {fs gs : List (Fill R)} {traded gone : ℕ} → ground_of f s m x ≡ None → request_of x ≡ Some q →
       Acts f s.session s.contents q fs traded gone c → Settling f (session_then s.session x) c gs e →
       Step f s m x (Ok (length (fs ++ gs), traded, gone)) (fs ++ gs) (record { session = session_then s.session x; contents = e })
 
--- a book with these tables, of which its first places count
-abbrev pub state_of : {R D L : Type 0} → Book D L → List (DarkOrder R) → List (LitOrder R) → State R
-state_of b dark lit =
-    record {
-      session = b.session;
-      contents = record { away = b.core.away; trades = b.core.trades; darks = take b.darks dark; lits = take b.lits lit };
-    }
-
-abbrev pub memory_of : {R : Type 0} → List (DarkOrder R) → List (LitOrder R) → List (Fill R) → Memory
-memory_of dark lit fills = record { darks = length dark; lits = length lit; fills = length fills }
-
 -- the contents of a book with this core and these tables, of which the first places count
 abbrev pub contents_with : {R : Type 0} → Core → ℕ → List (DarkOrder R) → ℕ → List (LitOrder R) → Contents R
 contents_with k darks dark lits lit = record { away = k.away; trades = k.trades; darks = take darks dark; lits = take lits lit }
 
--- the contents of a book with this core and these queues
-abbrev pub contents_in : {R : Type 0} → Core → Queue (DarkOrder R) → Queue (LitOrder R) → Contents R
-contents_in k darks lits = contents_of k.away k.trades darks lits
+-- a book with these tables, of which its first places count
+abbrev pub state_of : {R D L : Type 0} → Book D L → List (DarkOrder R) → List (LitOrder R) → State R
+state_of b dark lit = record { session = b.session; contents = contents_with b.core b.darks dark b.lits lit }
+
+-- how long the lent tables and list are
+abbrev pub memory_of : {R : Type 0} → List (DarkOrder R) → List (LitOrder R) → List (Fill R) → Memory
+memory_of dark lit fills = record { darks = length dark; lits = length lit; fills = length fills }
+
+-- a book that is lent this memory
+abbrev pub state_in : {R D L : Type 0} → Book D L → Lent R → State R
+state_in b m = state_of b m.dark.now m.lit.now
+
+-- the facility of a book's lot and priorities, for the day
+abbrev pub facility_at : {R D L : Type 0} → (R → ℕ) → (D → Ordering) → (L → Ordering) → Book D L → Facility R
+facility_at number dark lit b = facility_of number dark lit b.priorities b.core.lot
+
+-- how many places the lent memory has
+abbrev pub lengths_of : {R : Type 0} → Lent R → Memory
+lengths_of m = memory_of m.dark.now m.lit.now m.fills.now
+
+-- the contents of a book that a call finds so
+abbrev pub contents_on : {R : Type 0} → RestingOrders R → Contents R
+contents_on r = record { away = r.core.now.away; trades = r.core.now.trades; darks = r.darks.now; lits = r.lits.now }
+
+-- the contents of a book with this core and these tables
+abbrev pub contents_in : {R : Type 0} → Core → Tables R → Contents R
+contents_in k t = contents_of k.away k.trades t
 
 -- a whole call: its answer and the book are those of the only step there is, and the fill list begins with its fills,
 -- later places as they were
@@ -121,14 +142,21 @@ pub record Called {R : Type 0} (f : Facility R) (s : State R) (m : Memory) (x : 
   pub made : take (length fills) list ≡ fills
   pub past : drop (length fills) list ≡ drop (length fills) was
 
--- a call on a book that is lent these tables and this list: the whole call is as above; lot and priorities are for the
--- day; and a refused call leaves the book, both tables and the list as they were, every place
-pub record Served {R D L : Type 0} (f : Facility R) (x : Call R) (b : Book D L) (dark : List (DarkOrder R)) (lit : List (LitOrder R)) (fills : List (Fill R))
-    (a : Answer) (b' : Book D L) (dark' : List (DarkOrder R)) (lit' : List (LitOrder R)) (fills' : List (Fill R)) : Type 0 where
-  pub called : Called f (state_of b dark lit) (memory_of dark lit fills) x fills a (state_of b' dark' lit') fills'
+-- the second is the memory that the first was, place for place
+pub record SameMemory {R : Type 0} (m m' : Lent R) : Type 0 where
+  pub lengths : lengths_of m' ≡ lengths_of m
+  pub dark : m'.dark.ghost_name ≡ m.dark.ghost_name
+  pub lit : m'.lit.ghost_name ≡ m.lit.ghost_name
+  pub fills : m'.fills.ghost_name ≡ m.fills.ghost_name
+
+-- a call on a book that is lent this memory: the whole call is as above; lot and priorities are for the day, and the memory
+-- is still the host's; and a refused call leaves the book, both tables and the list as they were, every place
+pub record Served {R D L : Type 0} (f : Facility R) (x : Call R) (b : Book D L) (m : Lent R) (a : Answer) (b' : Book D L) (m' : Lent R) : Type 0 where
+  pub called : Called f (state_in b m) (lengths_of m) x m.fills.now a (state_in b' m') m'.fills.now
   pub lot : b'.core.lot ≡ b.core.lot
   pub priorities : b'.priorities ≡ b.priorities
-  pub unchanged : (g : Ground) → a ≡ Err g → (b' ≡ b) × (dark' ≡ dark) × (lit' ≡ lit) × (fills' ≡ fills)
+  pub same : SameMemory m m'
+  pub unchanged : (g : Ground) → a ≡ Err g → (b' ≡ b) × (m'.dark.now ≡ m.dark.now) × (m'.lit.now ≡ m.lit.now) × (m'.fills.now ≡ m.fills.now)
 
 -- a new book: Pre-Open, no quote, no trades, and nothing rests
 pub record New {D L : Type 0} (lot : ℕ) (p : Priorities D L) (b : Book D L) : Type 0 where
@@ -158,6 +186,7 @@ pub record Acted {R : Type 0} (f : Facility R) (s : Session) (c : Contents R) (q
   pub made : Appended was fills list
   pub acts : Acts f s c q fills traded gone e
 
+-- what code says of settling, its fills appended to the fill list
 pub record SettledIn {R : Type 0} (f : Facility R) (s : Session) (c : Contents R) (was : Queue (Fill R)) (e : Contents R) (list : Queue (Fill R)) : Type 0 where
   pub fills : List (Fill R)
   pub made : Appended was fills list

@@ -14,7 +14,8 @@ pub struct Core {
     pub trades: u32,
 }
 
-// A book counts the orders that rest in the tables that it is lent, and owns no memory.
+// A book counts the orders that rest in the tables that it is lent, and owns no memory: the counts stand here, and not with
+// the orders, since a host lends its fixed memory anew with each call.
 #[derive(Drop)]
 pub struct Book<D, L> {
     session: Session,
@@ -27,5 +28,7 @@ pub struct Book<D, L> {
     ghost fewer: { lits ≤ 256 },
 }
 
+pub mod admit;
 pub mod calls;
 pub mod questions;
+pub mod serve;

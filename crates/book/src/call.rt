@@ -1,4 +1,5 @@
-// The calls, as members send them: every field is any 32-bit number. And the requests that they are read as.
+// The calls, as members send them: every field is any 32-bit number, and 0 stands for what is not given. And the requests that
+// they are read as.
 use market::codes::{Seek, Side};
 use market::orders::{DarkOrder, LitOrder};
 use market::quotes::Away;

@@ -2,10 +2,11 @@
 #![tactic(auto)]
 
 pub mod act;
-pub mod admit;
 pub mod book;
 pub mod call;
+pub mod grounds;
+pub mod memory;
 pub mod read;
-pub mod serve;
+pub mod resting;
 pub mod session;
 pub mod tables;

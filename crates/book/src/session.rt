@@ -1,5 +1,6 @@
 // The session of a day, and how calls move it.
-ghost use Rattle.std.specs.Prelude.{◌≡◌, Some, None, Ok, Err};
+ghost use Rattle.std.specs.Prelude.{◌≡◌};
+ghost use Rattle.std.specs.Result.{result_err};
 ghost use Rattle.book.specs.Sessions.{session_ground, session_then, is_closed as closed, is_continuous as continuous};
 
 use crate::call::Call;
@@ -15,7 +16,7 @@ pub enum Session {
 impl Session {
     // Moves on with a call, or refuses it and stays.
     pub fn advance<R: Copy>(&mut self, call: &Call<R>) -> Result<(), Ground>
-        ensures answer { elim result [ Ok _ ↦ session_ground self.old call.now ≡ None | Err g ↦ session_ground self.old call.now ≡ Some g ] }
+        ensures answer { result_err result ≡ session_ground self.old call.now }
         ensures moved { self.new ≡ session_then self.old call.now }
     {
         match (*self, call) {
@@ -35,18 +36,12 @@ impl Session {
     pub fn is_closed(self) -> bool
         ensures { result ≡ closed self }
     {
-        match self {
-            Session::Closed => true,
-            Session::PreOpen | Session::Continuous => false,
-        }
+        self == Session::Closed
     }
 
     pub fn is_continuous(self) -> bool
         ensures { result ≡ continuous self }
     {
-        match self {
-            Session::Continuous => true,
-            Session::PreOpen | Session::Closed => false,
-        }
+        self == Session::Continuous
     }
 }

@@ -2,9 +2,10 @@
 use crate::entries::member_of;
 use book::book::Book;
 use book::call::{Call, DarkEntry, LitEntry, SdlEntry};
-use market::codes::{Contra, Kind, Peg, Side};
+use book::memory::Memory;
+use market::codes::Kind;
 use market::ground::Ground;
-use market::orders::{DarkOrder, Fill, LitOrder, Party};
+use market::orders::{DarkOrder, Fill, LitOrder};
 use market::quotes::Away;
 use matching::active::Priorities;
 use priority::priority::{EnoughSize, OwnMember, Pile};
@@ -13,26 +14,14 @@ use std::test::Fail;
 
 pub type FacilityBook = Book<Pile<OwnMember, EnoughSize>, OwnMember>;
 
-// What a call answers.
-#[derive(Clone, Copy, PartialEq, Eq, Debug)]
-pub enum Answer {
-    Done {
-        fills: u32,
-        traded: u32,
-        cancelled: u32,
-    },
-    Refused(u32),
-}
+// What a call answers: its three counts, or the number of the ground that refuses it.
+pub type Answer = Result<(u32, u32, u32), u32>;
 
 pub fn done(fills: u32, traded: u32, cancelled: u32) -> Answer {
-    Answer::Done {
-        fills,
-        traded,
-        cancelled,
-    }
+    Ok((fills, traded, cancelled))
 }
 
-// A trade: its number in the day, the references of buyer and seller, and the kind's number.
+// A trade: its number in the day, and the references of buyer and seller.
 #[derive(Clone, Copy, PartialEq, Eq, Debug)]
 pub struct Trade {
     pub number: u32,
@@ -40,40 +29,30 @@ pub struct Trade {
     pub seller: u32,
     pub shares: u32,
     pub price: u32,
-    pub kind: u32,
+    pub kind: Kind,
+}
+
+fn trade_of(kind: Kind, number: u32, buyer: u32, seller: u32, shares: u32, price: u32) -> Trade {
+    Trade {
+        number,
+        buyer,
+        seller,
+        shares,
+        price,
+        kind,
+    }
 }
 
 pub fn sdl_dark(number: u32, buyer: u32, seller: u32, shares: u32, price: u32) -> Trade {
-    Trade {
-        number,
-        buyer,
-        seller,
-        shares,
-        price,
-        kind: 1,
-    }
+    trade_of(Kind::SdlDark, number, buyer, seller, shares, price)
 }
 
 pub fn sdl_lit(number: u32, buyer: u32, seller: u32, shares: u32, price: u32) -> Trade {
-    Trade {
-        number,
-        buyer,
-        seller,
-        shares,
-        price,
-        kind: 2,
-    }
+    trade_of(Kind::SdlLit, number, buyer, seller, shares, price)
 }
 
 pub fn dark_dark(number: u32, buyer: u32, seller: u32, shares: u32, price: u32) -> Trade {
-    Trade {
-        number,
-        buyer,
-        seller,
-        shares,
-        price,
-        kind: 3,
-    }
+    trade_of(Kind::DarkDark, number, buyer, seller, shares, price)
 }
 
 // What a test sees of a resting order: a Dark order's minimum or a lit order's price is its `term`.
@@ -137,42 +116,6 @@ pub struct Bench {
     surprise: Option<Surprise>,
 }
 
-pub const NO_PARTY: Party<u32> = Party {
-    member: 0,
-    reference: 0,
-};
-
-pub const NO_FILL: Fill<u32> = Fill {
-    number: 0,
-    buyer: NO_PARTY,
-    seller: NO_PARTY,
-    shares: 0,
-    price: 0,
-    kind: Kind::SdlDark,
-};
-
-pub const NO_DARK: DarkOrder<u32> = DarkOrder {
-    member: 0,
-    reference: 0,
-    side: Side::Buy,
-    remaining: 0,
-    peg: Peg::Midpoint,
-    cap: 0,
-    contra: Contra::All,
-    minimum: 0,
-    jitney: false,
-    key: 0,
-};
-
-pub const NO_LIT: LitOrder<u32> = LitOrder {
-    member: 0,
-    reference: 0,
-    side: Side::Buy,
-    remaining: 0,
-    price: 0,
-    jitney: false,
-};
-
 pub fn facility() -> Priorities<Pile<OwnMember, EnoughSize>, OwnMember> {
     Priorities {
         dark: Pile {
@@ -183,14 +126,7 @@ pub fn facility() -> Priorities<Pile<OwnMember, EnoughSize>, OwnMember> {
     }
 }
 
-fn answer_of(r: Result<(u32, u32, u32), Ground>) -> Answer {
-    match r {
-        Ok((fills, traded, cancelled)) => done(fills, traded, cancelled),
-        Err(ground) => Answer::Refused(ground.number()),
-    }
-}
-
-// The reference of a party, or 0 where it stands beside another member than its own.
+// The reference of a party, or 0, which is no reference, where it stands beside another member than its own.
 fn named(member: u32, reference: u32) -> u32 {
     if member == member_of(reference) {
         reference
@@ -199,41 +135,38 @@ fn named(member: u32, reference: u32) -> u32 {
     }
 }
 
-fn seen_dark(d: &DarkOrder<u32>) -> Resting {
-    rests(named(d.member, d.reference), d.remaining, d.minimum)
+impl From<&DarkOrder<u32>> for Resting {
+    fn from(d: &DarkOrder<u32>) -> Resting {
+        rests(named(d.member, d.reference), d.remaining, d.minimum)
+    }
 }
 
-fn seen_lit(l: &LitOrder<u32>) -> Resting {
-    rests(named(l.member, l.reference), l.remaining, l.price)
+impl From<&LitOrder<u32>> for Resting {
+    fn from(l: &LitOrder<u32>) -> Resting {
+        rests(named(l.member, l.reference), l.remaining, l.price)
+    }
 }
 
-fn seen_fill(f: &Fill<u32>) -> Trade {
-    let buyer = named(f.buyer.member, f.buyer.reference);
-    let seller = named(f.seller.member, f.seller.reference);
-    Trade {
-        number: f.number,
-        buyer,
-        seller,
-        shares: f.shares,
-        price: f.price,
-        kind: f.kind.number(),
+impl From<&Fill<u32>> for Trade {
+    fn from(f: &Fill<u32>) -> Trade {
+        let buyer = named(f.buyer.member, f.buyer.reference);
+        let seller = named(f.seller.member, f.seller.reference);
+        trade_of(f.kind, f.number, buyer, seller, f.shares, f.price)
     }
 }
 
 impl Bench {
     pub fn of_lot(lot: u32) -> Result<Bench, Fail> {
-        match Book::new(lot, facility()) {
-            Ok(book) => Ok(Bench {
-                book,
-                dark: [NO_DARK; 256],
-                lit: [NO_LIT; 256],
-                fills: [NO_FILL; 513],
-                made: 0,
-                calls: 0,
-                surprise: None,
-            }),
-            Err(_) => Err(Fail::new("no book of this lot")),
-        }
+        let book = Book::new(lot, facility()).map_err(|_| Fail::new("no book of this lot"))?;
+        Ok(Bench {
+            book,
+            dark: [DarkOrder::default(); 256],
+            lit: [LitOrder::default(); 256],
+            fills: [Fill::default(); 513],
+            made: 0,
+            calls: 0,
+            surprise: None,
+        })
     }
 
     // A book of lot 100 in Pre-Open, under a quote of the other markets.
@@ -252,14 +185,11 @@ impl Bench {
 
     // The first surprise of the story, if there was one.
     pub fn verdict(&self, rt: &impl Abort) -> Result<(), Fail> {
-        match self.surprise {
-            Some(s) => {
-                let calls = s.calls;
-                assert_eq!(rt; s.seen, s.wanted, "after {calls} calls");
-                Ok(())
-            }
-            None => Ok(()),
+        if let Some(s) = self.surprise {
+            let calls = s.calls;
+            assert_eq!(rt; s.seen, s.wanted, "after {calls} calls");
         }
+        Ok(())
     }
 
     fn expect(&mut self, seen: Sight, wanted: Sight) {
@@ -274,21 +204,21 @@ impl Bench {
 
     // A call, and what it is to answer.
     pub fn apply(&mut self, call: &Call<u32>, wanted: Answer) {
-        let answer = answer_of(
-            self.book
-                .apply(&mut self.dark, &mut self.lit, &mut self.fills, call),
-        );
+        let mut memory = Memory {
+            dark: &mut self.dark,
+            lit: &mut self.lit,
+            fills: &mut self.fills,
+        };
+        let answer = self.book.apply(&mut memory, call).map_err(Ground::number);
         self.made = match answer {
-            Answer::Done {
-                fills,
-                traded: _,
-                cancelled: _,
-            } => fills,
-            Answer::Refused(_) => 0,
+            Ok((fills, _, _)) => fills,
+            Err(_) => 0,
         };
         self.calls = self.calls.saturating_add(1);
         self.expect(Sight::Answer(answer), Sight::Answer(wanted));
     }
+
+    // From here on, the names that stories are told in, each a line or two over what it says.
 
     pub fn quote(&mut self, bid: u32, offer: u32, wanted: Answer) {
         self.apply(&Call::Quote(Away { bid, offer }), wanted);
@@ -322,29 +252,25 @@ impl Bench {
 
     // The nth fill that the list holds.
     pub fn fill(&self, n: usize) -> Option<Trade> {
-        if n < 513 {
-            Some(seen_fill(&self.fills[n]))
-        } else {
-            None
-        }
+        self.fills.get(n).map(Trade::from)
     }
 
     // The nth resting Dark order.
     pub fn resting_dark(&self, n: usize) -> Option<Resting> {
-        if n < self.book.resting_darks() {
-            Some(seen_dark(&self.dark[n]))
-        } else {
-            None
-        }
+        self.dark
+            .iter()
+            .take(self.book.resting_darks())
+            .nth(n)
+            .map(Resting::from)
     }
 
     // The nth resting lit order.
     pub fn resting_lit(&self, n: usize) -> Option<Resting> {
-        if n < self.book.resting_lits() {
-            Some(seen_lit(&self.lit[n]))
-        } else {
-            None
-        }
+        self.lit
+            .iter()
+            .take(self.book.resting_lits())
+            .nth(n)
+            .map(Resting::from)
     }
 
     pub fn fill_is(&mut self, n: usize, trade: Trade) {
@@ -362,31 +288,32 @@ impl Bench {
         self.expect(Sight::Lit(seen), Sight::Lit(Some(order)));
     }
 
+    // So many are seen, and the nth `is` the nth that is wanted.
+    fn all_are<T: Copy, F: Fn(&mut Bench, usize, T)>(&mut self, seen: usize, wanted: &[T], is: F)
+        requires { F.IsAlwaysCallable is }
+    {
+        self.expect(Sight::Count(seen), Sight::Count(wanted.len()));
+        for (i, x) in wanted.iter().enumerate() {
+            is(self, i, *x);
+        }
+    }
+
     // The latest call made these fills and no other.
     pub fn fills_are(&mut self, trades: &[Trade]) {
-        let made = self.made as usize;
-        self.expect(Sight::Count(made), Sight::Count(trades.len()));
-        for i in 0..trades.len() {
-            self.fill_is(i, trades[i]);
-        }
+        let seen = self.made as usize;
+        self.all_are(seen, trades, Bench::fill_is);
     }
 
     // These Dark orders rest, in this order.
     pub fn darks_are(&mut self, orders: &[Resting]) {
-        let darks = self.book.resting_darks();
-        self.expect(Sight::Count(darks), Sight::Count(orders.len()));
-        for i in 0..orders.len() {
-            self.dark_is(i, orders[i]);
-        }
+        let seen = self.book.resting_darks();
+        self.all_are(seen, orders, Bench::dark_is);
     }
 
     // These lit orders rest, in this order.
     pub fn lits_are(&mut self, orders: &[Resting]) {
-        let lits = self.book.resting_lits();
-        self.expect(Sight::Count(lits), Sight::Count(orders.len()));
-        for i in 0..orders.len() {
-            self.lit_is(i, orders[i]);
-        }
+        let seen = self.book.resting_lits();
+        self.all_are(seen, orders, Bench::lit_is);
     }
 
     // So many trades were made in the day.
@@ -404,16 +331,16 @@ impl Bench {
             trades: self.book.trades(),
             darks: self.book.resting_darks(),
             lits: self.book.resting_lits(),
-            first_dark: seen_dark(&self.dark[0]),
-            first_lit: seen_lit(&self.lit[0]),
-            first_fill: seen_fill(&self.fills[0]),
+            first_dark: Resting::from(&self.dark[0]),
+            first_lit: Resting::from(&self.lit[0]),
+            first_fill: Trade::from(&self.fills[0]),
         }
     }
 
     // The call is refused on this ground, and changes nothing.
     pub fn refuses(&mut self, call: &Call<u32>, ground: u32) {
         let before = self.state();
-        self.apply(call, Answer::Refused(ground));
+        self.apply(call, Err(ground));
         let after = self.state();
         self.expect(Sight::State(after), Sight::State(before));
     }

@@ -1,4 +1,7 @@
-// Entries with usual terms. A reference names its member: 101, 102, .. are orders of member 1, 1601 is one of member 16.
+// Entries with usual terms, by names that stories are told in. Codes are numbers here, as members send them, since stories tell
+// how they are read too.
+//
+// A reference names its member: 101, 102, .. are orders of member 1, 1601 is one of member 16.
 use book::call::{DarkEntry, LitEntry, SdlEntry};
 
 pub const BUY: u32 = 1;

@@ -3,6 +3,7 @@ use crate::bench::*;
 use crate::entries::*;
 use book::book::Book;
 use book::call::{DarkEntry, LitEntry, SdlEntry};
+use market::ground::Ground;
 use std::test::*;
 
 // One trade made; 400 of the Dark buy 101 and the lit buy 301 rest.
@@ -16,18 +17,19 @@ fn busy() -> Result<Bench, Fail> {
     Ok(b)
 }
 
-// The ground that refuses a book of this lot, 0 for none.
-fn ground_of(lot: u32) -> u32 {
-    match Book::new(lot, facility()) {
-        Ok(_) => 0,
-        Err(ground) => ground.number(),
-    }
+// The ground that refuses a book of this lot, if any does.
+fn ground_of(lot: u32) -> Option<u32> {
+    Book::new(lot, facility()).err().map(Ground::number)
 }
 
 #[test]
 fn ground_1_for_an_unlisted_lot(rt: HostRuntime) -> Result<(), Fail> {
-    assert!(rt; ground_of(200) == 1 && ground_of(0) == 1 && ground_of(1_001) == 1);
-    assert!(rt; ground_of(100) == 0 && ground_of(500) == 0 && ground_of(1_000) == 0);
+    for lot in [200, 0, 1_001] {
+        assert_eq!(rt; ground_of(lot), Some(1));
+    }
+    for lot in [100, 500, 1_000] {
+        assert_eq!(rt; ground_of(lot), None);
+    }
     Ok(())
 }
 

@@ -5,36 +5,46 @@ use crate::bench::*;
 use crate::entries::*;
 use book::book::Book;
 use book::call::DarkEntry;
+use book::memory::Memory;
+use market::ground::Ground;
+use market::orders::{DarkOrder, Fill, LitOrder};
 use std::test::*;
 
-// The ground of a new book's first call over so many places, 0 if it is accepted.
-fn ground_over(darks: usize, lits: usize, fills: usize) -> u32
+// A new book's first call over so many places.
+fn start_over(darks: usize, lits: usize, fills: usize) -> Result<(u32, u32, u32), Ground>
     requires darks { darks ≤ 257 }
     requires lits { lits ≤ 257 }
     requires fills { fills ≤ 514 }
 {
-    let mut dark = [NO_DARK; 257];
-    let mut lit = [NO_LIT; 257];
-    let mut made = [NO_FILL; 514];
-    let mut book = match Book::new(100, facility()) {
-        Ok(book) => book,
-        Err(ground) => return ground.number(),
+    let mut dark = [DarkOrder::<u32>::default(); 257];
+    let mut lit = [LitOrder::default(); 257];
+    let mut made = [Fill::default(); 514];
+    let mut memory = Memory {
+        dark: &mut dark[0..darks],
+        lit: &mut lit[0..lits],
+        fills: &mut made[0..fills],
     };
-    match book.start(&mut dark[0..darks], &mut lit[0..lits], &mut made[0..fills]) {
-        Ok(_) => 0,
-        Err(ground) => ground.number(),
-    }
+    Book::new(100, facility())?.start(&mut memory)
+}
+
+// The ground that refuses it, if any does.
+fn ground_over(darks: usize, lits: usize, fills: usize) -> Option<u32>
+    requires darks { darks ≤ 257 }
+    requires lits { lits ≤ 257 }
+    requires fills { fills ≤ 514 }
+{
+    start_over(darks, lits, fills).err().map(Ground::number)
 }
 
 #[test]
 fn ground_3_for_tables_of_the_wrong_length(rt: HostRuntime) -> Result<(), Fail> {
-    assert_eq!(rt; ground_over(256, 256, 513), 0);
-    assert_eq!(rt; ground_over(256, 256, 514), 0);
-    assert_eq!(rt; ground_over(255, 256, 513), 3);
-    assert_eq!(rt; ground_over(257, 256, 513), 3);
-    assert_eq!(rt; ground_over(256, 255, 513), 3);
-    assert_eq!(rt; ground_over(256, 257, 513), 3);
-    assert_eq!(rt; ground_over(256, 256, 512), 3);
+    assert_eq!(rt; ground_over(256, 256, 513), None);
+    assert_eq!(rt; ground_over(256, 256, 514), None);
+    assert_eq!(rt; ground_over(255, 256, 513), Some(3));
+    assert_eq!(rt; ground_over(257, 256, 513), Some(3));
+    assert_eq!(rt; ground_over(256, 255, 513), Some(3));
+    assert_eq!(rt; ground_over(256, 257, 513), Some(3));
+    assert_eq!(rt; ground_over(256, 256, 512), Some(3));
     Ok(())
 }
 

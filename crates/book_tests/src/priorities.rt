@@ -5,6 +5,8 @@ use book::call::{DarkEntry, LitEntry, SdlEntry};
 use std::process::Abort;
 use std::test::*;
 
+// Three meetings, each told as it goes: who is active, who rests, and what is to be seen differ in every line.
+
 // Whom an SDL sell of member 3 is to meet of the Dark buys 201 and 301.
 fn sdl_meets_dark(rt: &impl Abort, resting: u32, active: u32, met: u32) -> Result<(), Fail> {
     let mut b = Bench::open(1_824, 1_832)?;

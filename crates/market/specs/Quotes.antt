@@ -1,5 +1,5 @@
 -- The quote, and the prices of Dark orders under it. 0 stands for unset, or for no price.
-use Rattle.std.specs.Prelude.{ℕ, ◌+◌, ◌/◌, min, max, Bool, cond, not, ◌&&◌, ◌||◌, List, [], ◌∷◌, ◌==◌, nat_le, nat_lt}
+use Rattle.std.specs.Prelude.{ℕ, ◌+◌, ◌/◌, min, max, Bool, cond, not, ◌&&◌, ◌||◌, List, fold, ◌==◌, nat_le, nat_lt}
 use Rattle.market.specs.declared.codes.Side.{Side}
 use Rattle.market.specs.declared.codes.Side.TheVariants.{Buy, Sell}
 use Rattle.market.specs.declared.codes.Peg.{Peg}
@@ -26,13 +26,11 @@ lower best l = lower_offer l.side best l.price
 
 -- the best bid: the greatest of the other markets' and the resting lit buys
 unfoldable pub best_bid : {R : Type 0} → ℕ → List (LitOrder R) → ℕ
-best_bid best [] = best
-best_bid best (l ∷ ls) = best_bid (higher best l) ls
+best_bid away ls = fold higher away ls
 
 -- the best offer: the smallest of the other markets' and the resting lit sells
 unfoldable pub best_offer : {R : Type 0} → ℕ → List (LitOrder R) → ℕ
-best_offer best [] = best
-best_offer best (l ∷ ls) = best_offer (lower best l) ls
+best_offer away ls = fold lower away ls
 
 abbrev pub quote_of : {R : Type 0} → Away → List (LitOrder R) → Quote
 quote_of w ls = record { bid = best_bid w.bid ls; offer = best_offer w.offer ls; away = w }
@@ -63,15 +61,18 @@ capped s cap p = cond (p == 0 || cap == 0) p (capped_by s cap p)
 unfoldable pub dark_price : Quote → Side → Peg → ℕ → ℕ
 dark_price q s peg cap = cond (locked_or_crossed q) 0 (capped s cap (peg_price q s peg))
 
+-- of a bid and an offer, the one that an order of this side trades against
+abbrev pub other_side_of : Side → ℕ → ℕ → ℕ
+other_side_of Buy bid offer = offer
+other_side_of Sell bid offer = bid
+
 -- the best quote that an order of this side trades against
 abbrev pub opposing : Quote → Side → ℕ
-opposing q Buy = q.offer
-opposing q Sell = q.bid
+opposing q s = other_side_of s q.bid q.offer
 
 -- the other markets' quote that an order of this side could trade against there
 abbrev pub away_of : Away → Side → ℕ
-away_of w Buy = w.offer
-away_of w Sell = w.bid
+away_of w s = other_side_of s w.bid w.offer
 
 -- the best price of the lit orders that an order of this side could meet, 0 for none
 unfoldable pub nearest_lit : {R : Type 0} → Side → List (LitOrder R) → ℕ

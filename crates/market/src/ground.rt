@@ -4,20 +4,20 @@ ghost use Rattle.market.specs.Grounds.{ground_number};
 
 #[derive(Clone, Copy, PartialEq, Eq)]
 pub enum Ground {
-    Lot,
-    Closed,
-    Memory,
-    Trades,
-    Member,
-    Code,
-    Session,
-    Reference,
-    Unknown,
-    Quantity,
-    Price,
-    Minimum,
-    Crossing,
-    Full,
+    Lot = 1,
+    Closed = 2,
+    Memory = 3,
+    Trades = 4,
+    Member = 5,
+    Code = 6,
+    Session = 7,
+    Reference = 8,
+    Unknown = 9,
+    Quantity = 10,
+    Price = 11,
+    Minimum = 12,
+    Crossing = 13,
+    Full = 14,
 }
 
 impl Ground {
@@ -25,21 +25,6 @@ impl Ground {
     pub fn number(self) -> u32
         ensures { result ≡ ground_number self }
     {
-        match self {
-            Ground::Lot => 1,
-            Ground::Closed => 2,
-            Ground::Memory => 3,
-            Ground::Trades => 4,
-            Ground::Member => 5,
-            Ground::Code => 6,
-            Ground::Session => 7,
-            Ground::Reference => 8,
-            Ground::Unknown => 9,
-            Ground::Quantity => 10,
-            Ground::Price => 11,
-            Ground::Minimum => 12,
-            Ground::Crossing => 13,
-            Ground::Full => 14,
-        }
+        self as u32
     }
 }

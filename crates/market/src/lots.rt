@@ -1,26 +1,21 @@
 // Lots, quantities and minimums, in shares.
-ghost use Rattle.std.specs.Prelude.{◌≡◌, ◌<◌};
+ghost use Rattle.std.specs.Prelude.{◌≡◌};
 ghost use Rattle.market.specs.Lots.{valid_lot, round_lot, valid_quantity, valid_minimum};
 
 pub fn is_valid_lot(lot: u32) -> bool
     ensures { result ≡ valid_lot lot }
 {
-    match lot {
-        100 | 500 | 1000 => true,
-        _ => false,
-    }
+    matches!(lot, 100 | 500 | 1000)
 }
 
 // Whether so many shares are whole lots.
 pub fn is_round_lot(lot: u32, shares: u32) -> bool
-    requires { 0 < lot }
     ensures { result ≡ round_lot lot shares }
 {
-    shares % lot == 0
+    shares.is_multiple_of(lot)
 }
 
 pub fn is_valid_quantity(lot: u32, shares: u32) -> bool
-    requires { 0 < lot }
     ensures { result ≡ valid_quantity lot shares }
 {
     shares > 0 && shares <= 1_000_000 && is_round_lot(lot, shares)
@@ -28,7 +23,6 @@ pub fn is_valid_quantity(lot: u32, shares: u32) -> bool
 
 // Whether `minimum` may stand on an order of so many shares.
 pub fn is_valid_minimum(lot: u32, shares: u32, minimum: u32) -> bool
-    requires { 0 < lot }
     ensures { result ≡ valid_minimum lot shares minimum }
 {
     minimum == 0 || (is_round_lot(lot, minimum) && minimum <= shares)

@@ -1,5 +1,6 @@
-// The records of the book: what rests, and what a trade leaves to tell.
-ghost use Rattle.std.specs.Prelude.{◌≡◌, ℕ, ◌<◌};
+// The records of the book: what rests, and what a trade leaves to tell. A default record fills a place of a lent table before
+// anything rests there.
+ghost use Rattle.std.specs.Prelude.{◌≡◌, ℕ};
 ghost use Rattle.market.specs.Orders.{valid_member, sound_dark, sound_lit};
 
 use crate::codes::{Contra, Kind, Peg, Side};
@@ -7,8 +8,8 @@ use crate::lots::{is_valid_minimum, is_valid_quantity};
 use crate::prices::{is_cap_or_none, is_valid_price};
 use crate::reference::Reference;
 
-// A hidden order. `cap`, `minimum` and `key` are 0 for none.
-#[derive(Clone, Copy)]
+// A hidden order. `cap`, `minimum` and `key` are 0 for none, as members send them.
+#[derive(Clone, Copy, Default)]
 pub struct DarkOrder<R> {
     pub member: u32,
     pub reference: R,
@@ -23,7 +24,7 @@ pub struct DarkOrder<R> {
 }
 
 // A displayed order.
-#[derive(Clone, Copy)]
+#[derive(Clone, Copy, Default)]
 pub struct LitOrder<R> {
     pub member: u32,
     pub reference: R,
@@ -34,14 +35,14 @@ pub struct LitOrder<R> {
 }
 
 // One end of a trade: whose order, and which.
-#[derive(Clone, Copy)]
+#[derive(Clone, Copy, Default)]
 pub struct Party<R> {
     pub member: u32,
     pub reference: R,
 }
 
 // A trade.
-#[derive(Clone, Copy)]
+#[derive(Clone, Copy, Default)]
 pub struct Fill<R> {
     pub number: u32,
     pub buyer: Party<R>,
@@ -59,8 +60,8 @@ pub fn is_valid_member(member: u32) -> bool
 
 impl<R: Reference> DarkOrder<R> {
     // The rule for resting orders.
+    #[tactic(auto, unfolding(crate::specs::Orders::sound_dark))]
     pub fn is_sound(&self, lot: u32) -> bool
-        requires { 0 < lot }
         ensures { result ≡ sound_dark R.Reference.number lot self.now }
     {
         is_valid_member(self.member)
@@ -73,8 +74,8 @@ impl<R: Reference> DarkOrder<R> {
 
 impl<R: Reference> LitOrder<R> {
     // The rule for resting orders.
+    #[tactic(auto, unfolding(crate::specs::Orders::sound_lit))]
     pub fn is_sound(&self, lot: u32) -> bool
-        requires { 0 < lot }
         ensures { result ≡ sound_lit R.Reference.number lot self.now }
     {
         is_valid_member(self.member)

@@ -1,4 +1,5 @@
-// Prices, in units of a quarter cent.
+// Prices, in units of a quarter cent; 0 stands for no price. Members send it so and tables keep it so, and prices are
+// compared and capped as they come: an Option would be opened and closed again at each of these places.
 ghost use Rattle.std.specs.Prelude.{◌≡◌};
 ghost use Rattle.market.specs.Prices.{valid_price, valid_cap, price_or_none, cap_or_none, better, within, beyond};
 
@@ -10,12 +11,13 @@ pub fn is_valid_price(price: u32) -> bool
     price >= 2
         && price <= 4_000_000
         && if price < 200 {
-            price % 2 == 0
+            price.is_multiple_of(2)
         } else {
-            price % 4 == 0
+            price.is_multiple_of(4)
         }
 }
 
+// Caps have a name of their own beside prices, since the two grids are two rules that happen to agree.
 pub fn is_valid_cap(cap: u32) -> bool
     ensures { result ≡ valid_cap cap }
 {

@@ -1,6 +1,6 @@
-// The quote, and the prices of Dark orders under it.
+// The quote, and the prices of Dark orders under it; 0 is no price, for the reason that `prices` gives.
 ghost use Rattle.std.specs.Prelude.{◌≡◌, ◌≤◌};
-ghost use Rattle.market.specs.Quotes.{higher, lower, best_bid, best_offer, quote_of, locked_or_crossed, midpoint_of, peg_price, capped, dark_price, opposing, away_of, nearest_lit};
+ghost use Rattle.market.specs.Quotes.{higher, lower, best_bid, best_offer, quote_of, locked_or_crossed, midpoint_of, peg_price, capped, dark_price, other_side_of, opposing, away_of, nearest_lit};
 
 use crate::codes::{Peg, Side};
 use crate::orders::LitOrder;
@@ -47,28 +47,23 @@ fn lessen<R: Copy>(best: u32, l: &LitOrder<R>) -> u32
 }
 
 // The greatest of `away` and the lit buys.
+#[tactic(auto, unfolding(crate::specs::Quotes::best_bid))]
 pub fn highest_bid<R: Copy>(away: u32, lits: &[LitOrder<R>]) -> u32
     ensures { result ≡ best_bid away lits.now }
 {
-    let mut best = away;
-    for l in lits {
-        best = raise(best, l);
-    }
-    best
+    lits.iter().fold(away, raise)
 }
 
 // The smallest of `away`, where it is set, and the lit sells.
+#[tactic(auto, unfolding(crate::specs::Quotes::best_offer))]
 pub fn lowest_offer<R: Copy>(away: u32, lits: &[LitOrder<R>]) -> u32
     ensures { result ≡ best_offer away lits.now }
 {
-    let mut best = away;
-    for l in lits {
-        best = lessen(best, l);
-    }
-    best
+    lits.iter().fold(away, lessen)
 }
 
 // The best price of the lit orders that an order of this side could meet, 0 for none.
+#[tactic(auto, unfolding(crate::specs::Quotes::nearest_lit))]
 pub fn nearest<R: Copy>(side: Side, lits: &[LitOrder<R>]) -> u32
     ensures { result ≡ nearest_lit side lits.now }
 {
@@ -103,7 +98,7 @@ impl Quote {
         if self.bid == 0 || self.offer == 0 {
             0
         } else {
-            ((self.bid as u64 + self.offer as u64) / 2) as u32
+            self.bid.midpoint(self.offer)
         }
     }
 
@@ -118,6 +113,7 @@ impl Quote {
     }
 
     // The price of a Dark order with these terms, 0 for none.
+    #[tactic(auto, unfolding(crate::specs::Quotes::dark_price))]
     pub fn dark_price(&self, side: Side, peg: Peg, cap: u32) -> u32
         ensures { result ≡ dark_price self.now side peg cap }
     {
@@ -131,20 +127,24 @@ impl Quote {
     pub fn against(&self, side: Side) -> u32
         ensures { result ≡ opposing self.now side }
     {
-        match side {
-            Side::Buy => self.offer,
-            Side::Sell => self.bid,
-        }
+        across(side, self.bid, self.offer)
     }
 
     // The other markets' quote that an order of this side could trade against there.
     pub fn away_against(&self, side: Side) -> u32
         ensures { result ≡ away_of self.now.away side }
     {
-        match side {
-            Side::Buy => self.away.offer,
-            Side::Sell => self.away.bid,
-        }
+        across(side, self.away.bid, self.away.offer)
+    }
+}
+
+// Of a bid and an offer, the one that an order of this side trades against.
+fn across(side: Side, bid: u32, offer: u32) -> u32
+    ensures { result ≡ other_side_of side bid offer }
+{
+    match side {
+        Side::Buy => offer,
+        Side::Sell => bid,
     }
 }
 

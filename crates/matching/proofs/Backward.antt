@@ -1,5 +1,5 @@
 -- A queue read from its last place to its first: the best of the places read so far.
-use Rattle.std.proofs.Common.{◌≡◌, ℕ, suc, ◌+◌, ◌-◌, ◌<◌, ◌≤◌, Bool, true, false, List, [], ◌∷◌, length, get_or, take, drop, Some, None, Option, sym, ap, ◌∙◌, arith}
+use Rattle.std.proofs.Common.{◌≡◌, ℕ, suc, ◌+◌, ◌-◌, ◌<◌, ◌≤◌, Bool, true, false, List, ◌∷◌, length, get_or, take, drop, Some, None, Option, sym, ap, ◌∙◌, arith}
 use Rattle.std.proofs.lemmas.List.{drop_more, get_or_default}
 use Rattle.matching.specs.Choice.{Pick, nobody, found, pick}
 
@@ -31,23 +31,6 @@ module _ {X : Type 0} (able : X → Bool) (beats : X → X → Bool) (xs : List 
     λ d. rw (get_or_default xs j d y k.1) (rw (h, k.2 y, r, a, b) (ap (λ z. found z y (drop (j + 1) xs)) (grown j k.0))),
   )
 
-  here : i' < length xs → (d : X) → found [] x (drop i xs) ≡ found (take (i' - i') (drop i' xs)) (get_or xs i' d) (drop (i' + 1) xs)
-  here lt d =
-      let z : i' - i' ≡ 0 = omega arith in
-      let f = drop_more xs i' d lt in
-      let g : get_or xs i' d ≡ x = cc in
-      rw (z, g, e)
-
-  found_here : pick able beats (x ∷ drop i xs) ≡ found [] x (drop i xs) → i' < length xs → BestFrom xs i' (Some i') (pick able beats (drop i' xs))
-  found_here p lt = (omega arith, lt, λ d. ap (pick able beats) h ∙ p ∙ here lt d)
-
-  begin : able x ≡ true → BestFrom xs i None (pick able beats (drop i xs)) → pick able beats (x ∷ drop i xs) ≡ found [] x (drop i xs)
-  begin a k = rw (k, a)
-
-  win : (j : ℕ) (y : X) → get_or xs j y ≡ y → able x ≡ true → beats y x ≡ false → BestFrom xs i (Some j) (pick able beats (drop i xs)) →
-      pick able beats (x ∷ drop i xs) ≡ found [] x (drop i xs)
-  win j y r a b k = rw (k.2 y, r, a, b)
-
 -- a turn at i: the one before it is read
 module _ {X : Type 0} (able : X → Bool) (beats : X → X → Bool) (xs : List X) (i : ℕ) (x : X) (pos : 0 < i) (le : i ≤ length xs) (read : x ≡ get_or xs (i - 1) x) where
   prior : i - 1 + 1 ≡ i
@@ -64,13 +47,3 @@ module _ {X : Type 0} (able : X → Bool) (beats : X → X → Bool) (xs : List 
 
   pub still_best : (j : ℕ) (y : X) → y ≡ get_or xs j y → able x ≡ true → beats y x ≡ true → SoFar (Some j) → Turn (Some j)
   still_best j y r a b k = (stay able beats xs i (i - 1) x prior (one_back xs i x pos le read) j y (sym r) a b k, omega arith)
-
-  pub first_able : able x ≡ true → SoFar None → Turn (Some (i - 1))
-  first_able a k =
-      let h = one_back xs i x pos le read in
-      (found_here able beats xs i (i - 1) x prior h (begin able beats xs i (i - 1) x prior h a k) (omega arith), omega arith)
-
-  pub takes_over : (j : ℕ) (y : X) → y ≡ get_or xs j y → able x ≡ true → beats y x ≡ false → SoFar (Some j) → Turn (Some (i - 1))
-  takes_over j y r a b k =
-      let h = one_back xs i x pos le read in
-      (found_here able beats xs i (i - 1) x prior h (win able beats xs i (i - 1) x prior h j y (sym r) a b k) (omega arith), omega arith)

@@ -6,7 +6,7 @@ use Rattle.market.specs.declared.orders.LitOrder.{LitOrder}
 use Rattle.market.specs.declared.quotes.Quote.{Quote}
 use Rattle.market.specs.Prices.{better}
 use Rattle.matching.specs.declared.active.Found.{Found}
-use Rattle.matching.specs.declared.active.Next.TheVariants as next
+use Rattle.matching.specs.declared.active.Met.TheVariants as met
 use Rattle.matching.specs.Choice.{Pick, Splits}
 use Rattle.matching.specs.Sweep.{dark, lit, better_of, next_of, price_under, Finds}
 
@@ -29,6 +29,6 @@ module _ {R : Type 0} (q : Quote) (s : Side) (ds : List (DarkOrder R)) (ls : Lis
   finds (Some l) None pl pd sl sd = (sl.0, (λ x. rw (sd, sl.1 x)), sl.2)
   finds (Some l) (Some d) pl pd sl sd = go (better s d.price l.price) refl
     where
-      go : (t : Bool) → better s d.price l.price ≡ t → Finds q ds ls (cond t (next.Dark d) (next.Lit l)) (better_of q s pl pd)
+      go : (t : Bool) → better s d.price l.price ≡ t → Finds q ds ls (cond t (Some (met.Dark d)) (Some (met.Lit l))) (better_of q s pl pd)
       go true e = (sd.0, (λ x. both l d pl pd sl sd x (one_of ls l.at sl.0) ∙ rw e), sd.2)
       go false e = (sl.0, (λ x. both l d pl pd sl sd (one_of ds d.at sd.0) x ∙ rw e), sl.2)

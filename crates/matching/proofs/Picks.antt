@@ -1,28 +1,20 @@
 -- What a pick says of its queue, whatever the preference: the picked one is able and the queue splits there; where
 -- nobody is picked nobody is able.
-use Rattle.std.proofs.Common.{◌≡◌, ℕ, Bool, true, false, cond, not, ◌&&◌, ◌||◌, List, [], ◌∷◌, ◌++◌, sym, refl, ap, ◌∙◌, ap₂, arith}
+use Rattle.std.proofs.Common.{◌≡◌, Bool, true, false, cond, not, ◌&&◌, ◌||◌, List, [], ◌∷◌, ◌++◌, sym, refl, ap, ◌∙◌, ap₂, arith}
+use Rattle.std.specs.List.{list_any}
+use Rattle.std.proofs.lemmas.Bool.{and_parts}
 use Rattle.matching.specs.Choice.{Pick, nobody, found, join, pick}
-use Rattle.matching.specs.Settle.{some_in}
 
 -- an order that the test passes over changes no answer
-pub some_split : {X : Type 0} (f : X → Bool) (before : List X) (x : X) (after : List X) → f x ≡ false → some_in f (before ++ x ∷ after) ≡ some_in f (before ++ after)
+pub some_split : {X : Type 0} (f : X → Bool) (before : List X) (x : X) (after : List X) → f x ≡ false → list_any f (before ++ x ∷ after) ≡ list_any f (before ++ after)
 some_split f [] x after e = rw e
 some_split f (y ∷ ys) x after e = ap (λ t. f y || t) (some_split f ys x after e)
 
 module _ {X : Type 0} (able : X → Bool) (beats : X → X → Bool) where
-  one_nobody : (x : X) (xs : List X) (t : Bool) → able x ≡ t → cond t (found [] x xs) nobody ≡ nobody → able x ≡ false
-  one_nobody x xs true a k = cc
-  one_nobody x xs false a k = a
+  none_step : (x : X) (xs : List X) (p : Pick X) → (p ≡ nobody → list_any able xs ≡ false) → join able beats x xs p ≡ nobody → (able x || list_any able xs) ≡ false
+  none_step x xs p ih k = grind arith
 
-  two_found : (t : Bool) (b c : List X) (x y : X) (d e : List X) → cond t (found b x d) (found c y e) ≡ nobody → ◌≡◌ {A = ℕ} 0 1
-  two_found true b c x y d e k = cc
-  two_found false b c x y d e k = cc
-
-  none_step : (x : X) (xs : List X) (p : Pick X) → (p ≡ nobody → some_in able xs ≡ false) → join able beats x xs p ≡ nobody → (able x || some_in able xs) ≡ false
-  none_step x xs nobody ih k = rw (one_nobody x xs (able x) refl k, ih refl)
-  none_step x xs (found b y d) ih k = absurd (let z = two_found (able x && not (beats y x)) [] (x ∷ b) x y xs d k in omega arith)
-
-  pub none_picked : (xs : List X) → pick able beats xs ≡ nobody → some_in able xs ≡ false
+  pub none_picked : (xs : List X) → pick able beats xs ≡ nobody → list_any able xs ≡ false
   none_picked [] e = refl
   none_picked (x ∷ xs) e = none_step x xs (pick able beats xs) (none_picked xs) e
 
@@ -36,15 +28,11 @@ module _ {X : Type 0} (able : X → Bool) (beats : X → X → Bool) where
   one_able : (y : X) (ys before : List X) (x : X) (after : List X) (t : Bool) → able y ≡ t → cond t (found [] y ys) nobody ≡ found before x after →
       (able x ≡ true) × (y ∷ ys ≡ before ++ x ∷ after)
   one_able y ys before x after true a k = here y ys before x after a k
-  one_able y ys before x after false a k = absurd (let z : ◌≡◌ {A = ℕ} 0 1 = cc in omega arith)
-
-  front_true : (p q : Bool) → (p && q) ≡ true → p ≡ true
-  front_true true q e = refl
-  front_true false q e = e
+  one_able y ys before x after false a k = absurd (cc)
 
   two_able : (y : X) (ys b : List X) (z : X) (d before : List X) (x : X) (after : List X) (t : Bool) → (able y && not (beats z y)) ≡ t →
       (able z ≡ true) × (ys ≡ b ++ z ∷ d) → cond t (found [] y ys) (found (y ∷ b) z d) ≡ found before x after → (able x ≡ true) × (y ∷ ys ≡ before ++ x ∷ after)
-  two_able y ys b z d before x after true a ih k = here y ys before x after (front_true (able y) (not (beats z y)) a) k
+  two_able y ys b z d before x after true a ih k = here y ys before x after (and_parts (able y) _ a).0 k
   two_able y ys b z d before x after false a ih k =
       let p : y ∷ b ≡ before = cc in
       let q : z ≡ x = cc in
@@ -58,5 +46,5 @@ module _ {X : Type 0} (able : X → Bool) (beats : X → X → Bool) where
   able_step y ys before x after (found b z d) ih k = two_able y ys b z d before x after (able y && not (beats z y)) refl (ih b z d refl) k
 
   pub picked_able : (xs before : List X) (x : X) (after : List X) → pick able beats xs ≡ found before x after → (able x ≡ true) × (xs ≡ before ++ x ∷ after)
-  picked_able [] before x after e = absurd (let z : ◌≡◌ {A = ℕ} 0 1 = cc in omega arith)
+  picked_able [] before x after e = absurd (cc)
   picked_able (y ∷ ys) before x after e = able_step y ys before x after (pick able beats ys) (λ b z d k. picked_able ys b z d k) e

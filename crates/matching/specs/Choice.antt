@@ -3,12 +3,13 @@ use Rattle.std.specs.Prelude.{◌≡◌, ℕ, ◌+◌, ◌<◌, Bool, true, fals
 use Rattle.std.specs.List.{AllByRecursion}
 use Rattle.market.specs.declared.codes.Kind.{Kind}
 use Rattle.market.specs.Prices.{better}
-use Rattle.priority.specs.declared.standing.Standing.{Standing}
-use Rattle.priority.specs.declared.standing.Standing.TheVariants.{FirstAhead, SecondAhead, Level}
+use Rattle.std.specs.declared.cmp.Ordering.TheVariants.{Less, Equal, Greater}
+use Rattle.priority.specs.Standings.{Standing}
 use Rattle.priority.specs.declared.standing.ActiveView.{ActiveView}
 use Rattle.priority.specs.declared.standing.RestingView.{RestingView}
 use Rattle.matching.specs.declared.active.Active.{Active}
 use Rattle.matching.specs.declared.active.LastLevel.{LastLevel}
+use Rattle.matching.specs.declared.choose.Asker.{Asker}
 use Rattle.matching.specs.declared.active.Found.{Found}
 
 -- a place in a queue: those before the chosen one, the chosen one, those after it
@@ -46,16 +47,22 @@ Picks able beats xs (found before c after) = Best able beats xs before c after
 abbrev pub Ordering : Type 0
 Ordering = ActiveView → RestingView → RestingView → Standing
 
+-- whether the first is ahead
 abbrev pub is_ahead : Standing → Bool
-is_ahead FirstAhead = true
-is_ahead SecondAhead = false
-is_ahead Level = false
+is_ahead Less = true
+is_ahead Greater = false
+is_ahead Equal = false
 
 -- the need at a price: what remained when the sweep first chose there, and what remains now if it chose elsewhere last
 abbrev pub need_at : Option LastLevel → ℕ → ℕ → ℕ
 need_at None p remaining = remaining
 need_at (Some n) p remaining = cond (n.price == p) n.need remaining
 
+-- the level that an active order now chooses at: its need is what remained when the sweep first chose there
+abbrev pub level_of : {R : Type 0} → Asker R → ℕ → LastLevel
+level_of k p = record { price = p; need = need_at k.last p k.active.remaining }
+
+-- what a priority is told of the active order
 abbrev pub asking : {R : Type 0} → Active R → Kind → Option LastLevel → ℕ → ActiveView
 asking a kind n p = record { member = a.member; jitney = a.jitney; need = need_at n p a.remaining; kind = kind }
 
@@ -64,8 +71,16 @@ abbrev pub beats : {X R : Type 0} → Active R → Kind → Option LastLevel →
 beats a kind n order price view x y =
     better a.side (price x) (price y) || (price x == price y && is_ahead (order (asking a kind n (price x)) (view x) (view y)))
 
--- the place that code found is where the pick splits the queue, with its price
+-- what an active order before one table prefers there
+abbrev pub preferred : {X R : Type 0} → Asker R → Ordering → (X → ℕ) → (X → RestingView) → X → X → Bool
+preferred k = beats k.active k.kind k.last
+
+-- the place that code found is where a choice splits the queue, with its price; `chosen` is how the choice says so
+abbrev pub FoundIn : {X C : Type 0} → (List X → X → List X → C) → (X → ℕ) → List X → Found → C → Type 0
+FoundIn {X} chosen price xs f c =
+    (f.at < length xs) × ((d : X) → c ≡ chosen (take f.at xs) (slice_index_or xs f.at d) (drop (f.at + 1) xs)) × ((d : X) → f.price ≡ price (slice_index_or xs f.at d))
+
+-- what code found is what the pick found, if anybody
 abbrev pub Splits : {X : Type 0} → (X → ℕ) → List X → Option Found → Pick X → Type 0
-Splits {X} price xs None p = p ≡ nobody
-Splits {X} price xs (Some f) p =
-    (f.at < length xs) × ((d : X) → p ≡ found (take f.at xs) (slice_index_or xs f.at d) (drop (f.at + 1) xs)) × ((d : X) → f.price ≡ price (slice_index_or xs f.at d))
+Splits price xs None p = p ≡ nobody
+Splits price xs (Some f) p = FoundIn found price xs f p

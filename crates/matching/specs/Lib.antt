@@ -2,3 +2,4 @@ pub mod Choice
 pub mod Meets
 pub mod Settle
 pub mod Sweep
+pub mod Tables

@@ -1,5 +1,6 @@
 -- A Dark order that sweeps, and settling: Dark orders trade with each other until none can.
-use Rattle.std.specs.Prelude.{◌≡◌, ℕ, ◌+◌, ◌<◌, Bool, false, ◌||◌, List, [], ◌∷◌, ◌++◌, length, take, drop, Some, None, Option, slice_index_or}
+use Rattle.std.specs.Prelude.{◌≡◌, ℕ, ◌+◌, ◌<◌, Bool, List, [], ◌++◌, length, take, drop, Some, None, Option, slice_index_or}
+use Rattle.std.specs.List.{list_any}
 use Rattle.market.specs.declared.orders.DarkOrder.{DarkOrder}
 use Rattle.market.specs.declared.orders.LitOrder.{LitOrder}
 use Rattle.market.specs.declared.orders.Fill.{Fill}
@@ -9,6 +10,8 @@ use Rattle.market.specs.Quotes.{quote_of}
 use Rattle.queue.specs.declared.queue.Queue.{Queue}
 use Rattle.queue.specs.Queues.{queued, Appended}
 use Rattle.matching.specs.declared.active.Active.{Active}
+use Rattle.matching.specs.declared.active.DarkForm.{DarkForm}
+use Rattle.matching.specs.Tables.{Tables}
 use Rattle.matching.specs.declared.active.Form.TheVariants as form
 use Rattle.matching.specs.Choice.{Pick, nobody, found, first}
 use Rattle.matching.specs.Meets.{may_meet_dark}
@@ -21,13 +24,17 @@ pub record Contents (R : Type 0) : Type 0 where
   pub darks : List (DarkOrder R)
   pub lits : List (LitOrder R)
 
--- the contents with these queues
-abbrev pub contents_of : {R : Type 0} → Away → ℕ → Queue (DarkOrder R) → Queue (LitOrder R) → Contents R
-contents_of w trades darks lits = record { away = w; trades = trades; darks = queued darks; lits = queued lits }
+-- the contents with these tables
+abbrev pub contents_of : {R : Type 0} → Away → ℕ → Tables R → Contents R
+contents_of w trades t = record { away = w; trades = trades; darks = queued t.darks; lits = queued t.lits }
 
 -- the quote with what rests in them
 abbrev pub quote_in : {R : Type 0} → Contents R → Quote
 quote_in c = quote_of c.away c.lits
+
+-- what a Dark order says beyond its side and size
+abbrev pub form_of : {R : Type 0} → DarkOrder R → DarkForm
+form_of d = record { peg = d.peg; cap = d.cap; contra = d.contra; key = d.key }
 
 -- a Dark order as it sweeps
 abbrev pub active_dark : {R : Type 0} → DarkOrder R → Active R
@@ -39,7 +46,7 @@ active_dark d =
       remaining = d.remaining;
       minimum = d.minimum;
       jitney = d.jitney;
-      form = form.Dark d.peg d.cap d.contra d.key;
+      form = form.Dark (form_of d);
     }
 
 -- a sweep that begins
@@ -67,13 +74,9 @@ abbrev pub after_sweep : {R : Type 0} → Away → DarkOrder R → Run R → Con
 after_sweep w d r =
     record { away = w; trades = r.progress.trades; darks = r.darks ++ dark_left (dark_kept d r.progress.active); lits = r.lits }
 
-abbrev pub some_in : {X : Type 0} → (X → Bool) → List X → Bool
-some_in p [] = false
-some_in p (x ∷ xs) = p x || some_in p xs
-
 -- a Dark order that may meet another
 unfoldable pub can_trade : {R : Type 0} → Quote → List (LitOrder R) → List (DarkOrder R) → DarkOrder R → Bool
-can_trade q ls ds d = some_in (may_meet_dark (dark_terms q (active_dark d) ls)) ds
+can_trade q ls ds d = list_any (may_meet_dark (dark_terms q (active_dark d) ls)) ds
 
 -- the first Dark order in the queue that may meet another
 unfoldable pub first_to_trade : {R : Type 0} → Quote → List (LitOrder R) → List (DarkOrder R) → Pick (DarkOrder R)

@@ -3,20 +3,31 @@ use market::codes::{Contra, Peg, Seek, Side};
 use market::quotes::Quote;
 use market::sizes::Size;
 
+// 0 stands for no price and no key here, as it does in what members send.
+
+// What an SDL order says beyond its side and size: how far it goes, what it seeks, and its size class.
+#[derive(Clone, Copy, PartialEq, Eq)]
+pub struct SdlForm {
+    pub limit: u32,
+    pub seek: Seek,
+    pub size: Size,
+}
+
+// What a Dark order says beyond its side and size: what its price follows and how far, whom it trades with, and its
+// self-trade key.
+#[derive(Clone, Copy, PartialEq, Eq)]
+pub struct DarkForm {
+    pub peg: Peg,
+    pub cap: u32,
+    pub contra: Contra,
+    pub key: u32,
+}
+
 // What an active order is: an SDL order, or a Dark order.
-#[derive(Clone, Copy)]
+#[derive(Clone, Copy, PartialEq, Eq)]
 pub enum Form {
-    Sdl {
-        limit: u32,
-        seek: Seek,
-        size: Size,
-    },
-    Dark {
-        peg: Peg,
-        cap: u32,
-        contra: Contra,
-        key: u32,
-    },
+    Sdl(SdlForm),
+    Dark(DarkForm),
 }
 
 // An order that sweeps.
@@ -32,7 +43,7 @@ pub struct Active<R> {
 }
 
 // What decides whether a Dark order may be met. `lit` is the best price of the lit orders that still rest against the
-// active order, 0 for none.
+// active order, 0 for none as of any price.
 #[derive(Clone, Copy)]
 pub struct DarkTerms<R> {
     pub quote: Quote,
@@ -40,7 +51,7 @@ pub struct DarkTerms<R> {
     pub lit: u32,
 }
 
-// What decides whether a lit order may be met.
+// What decides whether a lit order may be met: a type of its own, since no lit order asks for the best lit price.
 #[derive(Clone, Copy)]
 pub struct LitTerms<R> {
     pub quote: Quote,
@@ -71,10 +82,9 @@ pub struct Progress<R> {
     pub lit: Option<LastLevel>,
 }
 
-// Whom an active order meets next.
+// Whom an active order meets: a Dark order or a lit one.
 #[derive(Clone, Copy)]
-pub enum Next {
-    Nobody,
+pub enum Met {
     Dark(Found),
     Lit(Found),
 }

@@ -2,7 +2,7 @@
 ghost use Rattle.std.specs.Prelude.{◌≡◌, ℕ, Bool};
 ghost use Rattle.market.specs.declared.codes.Kind.{Kind};
 ghost use Rattle.priority.specs.declared.standing.RestingView.{RestingView};
-ghost use Rattle.matching.specs.Choice.{need_at, asking, beats as beats_for, pick, Splits};
+ghost use Rattle.matching.specs.Choice.{need_at, level_of, asking, preferred, pick, Splits};
 ghost use Rattle.matching.specs.Meets.{may_meet_dark, may_meet_lit, price_of_dark, price_of_lit, view_of_dark, view_of_lit};
 
 use crate::active::{Active, DarkTerms, Found, LastLevel, LitTerms};
@@ -11,9 +11,11 @@ use market::codes::Kind;
 use market::orders::{DarkOrder, LitOrder};
 use market::prices::is_better;
 use priority::priority::Priority;
-use priority::standing::{ActiveView, RestingView, Standing};
+use priority::standing::{ActiveView, RestingView};
 
 // A resting order, as the choice sees it. `Terms` decide whether it may be met, at what price, and what a priority sees.
+// The records of the two tables are flat, as a host writes them, so that each impl, here and in `Resting`, reads fields of
+// its own.
 pub trait Offer: Sized {
     type Terms;
 
@@ -85,51 +87,56 @@ impl<R: Copy> Offer for LitOrder<R> {
     }
 }
 
-// What remained when the sweep first chose at this price.
-pub fn need_at(last: Option<LastLevel>, price: u32, remaining: u32) -> u32
-    ensures { result ≡ need_at last price remaining }
-{
-    match last {
-        Some(level) if level.price == price => level.need,
-        Some(_) => remaining,
-        None => remaining,
-    }
+// An active order before one table: the kind of a fill there, and the level that its sweep last chose at there.
+#[derive(Clone, Copy)]
+pub struct Asker<R> {
+    pub active: Active<R>,
+    pub kind: Kind,
+    pub last: Option<LastLevel>,
 }
 
-// What a priority is told of the active order, for orders priced `price`.
-fn ask<R: Copy>(a: &Active<R>, kind: Kind, last: Option<LastLevel>, price: u32) -> ActiveView
-    ensures { result ≡ asking a.now kind last price }
-{
-    let need = need_at(last, price, a.remaining);
-    ActiveView {
-        member: a.member,
-        jitney: a.jitney,
-        need,
-        kind,
+impl<R: Copy> Asker<R> {
+    // What remained when the sweep first chose at this price.
+    pub fn need(&self, price: u32) -> u32
+        ensures { result ≡ need_at self.now.last price self.now.active.remaining }
+    {
+        match self.last {
+            Some(level) if level.price == price => level.need,
+            Some(_) | None => self.active.remaining,
+        }
     }
-}
 
-// Whether `x` is to be met before `y`, which stands earlier in the queue.
-fn beats<R: Copy, T: Offer, P: Priority>(
-    a: &Active<R>,
-    kind: Kind,
-    last: Option<LastLevel>,
-    p: &P,
-    terms: &T::Terms,
-    x: &T,
-    y: &T,
-) -> bool
-    ensures { result ≡ beats_for a.now kind last (P.Priority.order p.now) (T.Offer.costs terms.now) (T.Offer.shown terms.now) x.now y.now }
-{
-    let px = x.price(terms);
-    let py = y.price(terms);
-    if px != py {
-        return is_better(a.side, px, py);
+    // The level now chosen at.
+    pub fn level(&self, price: u32) -> LastLevel
+        ensures { result ≡ level_of self.now price }
+    {
+        let need = self.need(price);
+        LastLevel { price, need }
     }
-    let q = ask(a, kind, last, px);
-    match p.compare(&q, &x.view(terms), &y.view(terms)) {
-        Standing::FirstAhead => true,
-        Standing::SecondAhead | Standing::Level => false,
+
+    // What a priority is told of the active order, for orders priced `price`.
+    fn ask(&self, price: u32) -> ActiveView
+        ensures { result ≡ asking self.now.active self.now.kind self.now.last price }
+    {
+        ActiveView {
+            member: self.active.member,
+            jitney: self.active.jitney,
+            need: self.need(price),
+            kind: self.kind,
+        }
+    }
+
+    // Whether `x` is to be met before `y`, which stands earlier in the queue.
+    fn prefers<T: Offer, P: Priority>(&self, p: &P, terms: &T::Terms, x: &T, y: &T) -> bool
+        ensures { result ≡ preferred self.now (P.Priority.order p.now) (T.Offer.costs terms.now) (T.Offer.shown terms.now) x.now y.now }
+    {
+        let px = x.price(terms);
+        let py = y.price(terms);
+        if px != py {
+            return is_better(self.active.side, px, py);
+        }
+        p.compare(&self.ask(px), &x.view(terms), &y.view(terms))
+            .is_lt()
     }
 }
 
@@ -137,31 +144,25 @@ fn beats<R: Copy, T: Offer, P: Priority>(
 pub fn choose<R: Copy, T: Offer, P: Priority>(
     orders: &[T],
     terms: &T::Terms,
-    a: &Active<R>,
-    kind: Kind,
-    last: Option<LastLevel>,
+    asker: &Asker<R>,
     p: &P,
 ) -> Option<Found>
-    ensures { Splits (T.Offer.costs terms.now) orders.now result (pick (T.Offer.able terms.now) (beats_for a.now kind last (P.Priority.order p.now) (T.Offer.costs terms.now) (T.Offer.shown terms.now)) orders.now) }
+    ensures { Splits (T.Offer.costs terms.now) orders.now result (pick (T.Offer.able terms.now) (preferred asker.now (P.Priority.order p.now) (T.Offer.costs terms.now) (T.Offer.shown terms.now)) orders.now) }
 {
+    // Read from the back, so that of those level the earliest is left; and by place, since the best so far is a place.
     let mut best: Option<usize> = None;
-    let mut i = orders.len();
-    while i > 0 {
-        i -= 1;
+    for i in (0..orders.len()).rev() {
         let order = &orders[i];
         if order.may_be_met(terms) {
             best = match best {
-                Some(j) if beats(a, kind, last, p, terms, &orders[j], order) => Some(j),
-                Some(_) => Some(i),
-                None => Some(i),
+                Some(j) if asker.prefers(p, terms, &orders[j], order) => Some(j),
+                Some(_) | None => Some(i),
             };
         }
     }
-    match best {
-        Some(at) => Some(Found {
-            at,
-            price: orders[at].price(terms),
-        }),
-        None => None,
-    }
+    let at = best?;
+    Some(Found {
+        at,
+        price: orders[at].price(terms),
+    })
 }

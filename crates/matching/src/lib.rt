@@ -4,6 +4,7 @@
 pub mod active;
 pub mod choose;
 pub mod meets;
+pub mod resting;
 pub mod settle;
 pub mod sweep;
 pub mod trade;

@@ -1,36 +1,39 @@
 // A Dark order that sweeps, and settling.
-ghost use Rattle.std.specs.Prelude.{◌≡◌, ◌+◌, ◌<◌, ◌≤◌};
-ghost use Rattle.queue.specs.Queues.{queued, room, SamePlaces};
+ghost use Rattle.std.specs.Prelude.{◌≡◌, ◌<◌};
+ghost use Rattle.queue.specs.Queues.{queued, room};
 ghost use Rattle.matching.specs.Sweep.{orderings_of};
 ghost use Rattle.matching.specs.Settle.{contents_of, active_dark, dark_kept, can_trade, first_to_trade, Place, SweptDark, Settled};
+ghost use Rattle.matching.specs.Tables.{tables, SameTables, RoomFor, NumbersFor};
 
-use crate::active::{Active, DarkTerms, Form, Priorities, Progress};
+use crate::active::{Active, DarkForm, Form, Priorities, Progress};
 use crate::meets::meets_dark_order;
-use crate::sweep::sweep;
-use crate::trade::join;
+use crate::resting::join;
+use crate::sweep::{dark_terms, sweep};
 use market::orders::{DarkOrder, Fill, LitOrder};
-use market::quotes::{Away, Quote, nearest};
+use market::quotes::{Away, Quote};
 use priority::priority::Priority;
 use queue::queue::Queue;
 
 // A Dark order as it sweeps.
-fn activate<R: Copy>(d: &DarkOrder<R>) -> Active<R>
-    ensures { result ≡ active_dark d.now }
-{
-    let form = Form::Dark {
-        peg: d.peg,
-        cap: d.cap,
-        contra: d.contra,
-        key: d.key,
-    };
-    Active {
-        member: d.member,
-        reference: d.reference,
-        side: d.side,
-        remaining: d.remaining,
-        minimum: d.minimum,
-        jitney: d.jitney,
-        form,
+impl<R: Copy> From<&DarkOrder<R>> for Active<R> {
+    ghost from_gives = { λ d a. a ≡ active_dark d.now };
+
+    fn from(d: &DarkOrder<R>) -> Active<R> {
+        let form = DarkForm {
+            peg: d.peg,
+            cap: d.cap,
+            contra: d.contra,
+            key: d.key,
+        };
+        Active {
+            member: d.member,
+            reference: d.reference,
+            side: d.side,
+            remaining: d.remaining,
+            minimum: d.minimum,
+            jitney: d.jitney,
+            form: Form::Dark(form),
+        }
     }
 }
 
@@ -46,43 +49,37 @@ fn keep<R: Copy>(d: &DarkOrder<R>, a: &Active<R>) -> DarkOrder<R>
 }
 
 // Whether a Dark order may meet another.
+#[tactic(auto, unfolding(crate::specs::Settle::can_trade))]
 fn may_trade<R: Copy>(
     quote: &Quote,
-    lits: &[LitOrder<R>],
-    darks: &[DarkOrder<R>],
+    darks: &Queue<DarkOrder<R>>,
+    lits: &Queue<LitOrder<R>>,
     d: &DarkOrder<R>,
 ) -> bool
-    ensures { result ≡ can_trade quote.now lits.now darks.now d.now }
+    ensures { result ≡ can_trade quote.now (queued lits.now) (queued darks.now) d.now }
 {
-    let active = activate(d);
-    let terms = DarkTerms {
-        quote: *quote,
-        active,
-        lit: nearest(active.side, lits),
-    };
-    for other in darks {
-        if meets_dark_order(&terms, other) {
-            return true;
-        }
-    }
-    false
+    let terms = dark_terms(quote, &Active::from(d), lits);
+    darks
+        .orders()
+        .iter()
+        .any(|other| meets_dark_order(&terms, other))
 }
 
 // The first Dark order in the queue that may meet another.
 fn find_trader<R: Copy>(
     quote: &Quote,
-    lits: &[LitOrder<R>],
-    darks: &[DarkOrder<R>],
+    darks: &Queue<DarkOrder<R>>,
+    lits: &Queue<LitOrder<R>>,
 ) -> Option<usize>
-    ensures { Place darks.now result (first_to_trade quote.now lits.now darks.now) }
+    ensures { Place (queued darks.now) result (first_to_trade quote.now (queued lits.now) (queued darks.now)) }
 {
-    for (i, d) in darks.iter().enumerate() {
-        if may_trade(quote, lits, darks, d) {
-            return Some(i);
-        }
-    }
-    None
+    darks
+        .orders()
+        .iter()
+        .position(|d| may_trade(quote, darks, lits, d))
 }
+
+// The queues come one by one, as in a sweep.
 
 // A Dark order out of the queue sweeps, and what remains of it joins the end: how much that is.
 pub fn sweep_dark<R: Copy, D: Priority, L: Priority>(
@@ -95,14 +92,13 @@ pub fn sweep_dark<R: Copy, D: Priority, L: Priority>(
     fills: &mut Queue<Fill<R>>,
 ) -> u32
     requires place { darks.old.len < room darks.old }
-    requires room { fills.old.len + darks.old.len + lits.old.len < room fills.old }
-    requires trades { trades.old + darks.old.len + lits.old.len < 1000000 }
-    ensures swept { SweptDark (orderings_of D.Priority.order L.Priority.order p.now) quote.now quote.now.away trades.old d.now (queued darks.old) (queued lits.old) fills.old result (contents_of quote.now.away trades.new darks.new lits.new) fills.new }
-    ensures darks { SamePlaces darks.old darks.new }
-    ensures lits { SamePlaces lits.old lits.new }
+    requires room { RoomFor 1 (tables darks.old lits.old fills.old) }
+    requires trades { NumbersFor 1 trades.old (tables darks.old lits.old fills.old) }
+    ensures swept { SweptDark (orderings_of D.Priority.order L.Priority.order p.now) quote.now quote.now.away trades.old d.now (queued darks.old) (queued lits.old) fills.old result (contents_of quote.now.away trades.new (tables darks.new lits.new fills.new)) fills.new }
+    ensures same { SameTables (tables darks.old lits.old fills.old) (tables darks.new lits.new fills.new) }
 {
     let mut g = Progress {
-        active: activate(d),
+        active: Active::from(d),
         trades: *trades,
         dark: None,
         lit: None,
@@ -122,15 +118,14 @@ pub fn settle<R: Copy, D: Priority, L: Priority>(
     lits: &mut Queue<LitOrder<R>>,
     fills: &mut Queue<Fill<R>>,
 )
-    requires room { fills.old.len + darks.old.len + lits.old.len ≤ room fills.old }
-    requires trades { trades.old + darks.old.len + lits.old.len ≤ 1000000 }
-    ensures settled { Settled (orderings_of D.Priority.order L.Priority.order p.now) (contents_of away trades.old darks.old lits.old) fills.old (contents_of away trades.new darks.new lits.new) fills.new }
-    ensures darks { SamePlaces darks.old darks.new }
-    ensures lits { SamePlaces lits.old lits.new }
+    requires room { RoomFor 0 (tables darks.old lits.old fills.old) }
+    requires trades { NumbersFor 0 trades.old (tables darks.old lits.old fills.old) }
+    ensures settled { Settled (orderings_of D.Priority.order L.Priority.order p.now) (contents_of away trades.old (tables darks.old lits.old fills.old)) fills.old (contents_of away trades.new (tables darks.new lits.new fills.new)) fills.new }
+    ensures same { SameTables (tables darks.old lits.old fills.old) (tables darks.new lits.new fills.new) }
 {
     loop {
         let quote = Quote::of(away, lits.orders());
-        let Some(at) = find_trader(&quote, lits.orders(), darks.orders()) else {
+        let Some(at) = find_trader(&quote, darks, lits) else {
             return;
         };
         let d = darks.remove(at);

@@ -1,12 +1,14 @@
 // The sweep: the active order trades with its choice until nothing remains or nobody may be met.
-ghost use Rattle.std.specs.Prelude.{◌≡◌, ◌+◌, ◌<◌};
-ghost use Rattle.queue.specs.Queues.{queued, room, SamePlaces};
-ghost use Rattle.matching.specs.Sweep.{orderings_of, run_of, next_of, choice, Finds, Sweeps};
+ghost use Rattle.std.specs.Prelude.{◌≡◌};
+ghost use Rattle.queue.specs.Queues.{queued};
+ghost use Rattle.matching.specs.Sweep.{orderings_of, run_of, dark_terms as terms_with_lits, next_of, choice, Finds, Sweeps};
+ghost use Rattle.matching.specs.Tables.{tables, SameTables, RoomFor, NumbersFor};
 
-use crate::active::{DarkTerms, Found, LitTerms, Next, Priorities, Progress};
+use crate::active::{Active, DarkTerms, Found, LitTerms, Met, Priorities, Progress};
 use crate::choose::choose;
-use crate::trade::{kind_with_dark, trade_dark, trade_lit};
-use market::codes::{Kind, Side};
+use crate::resting::Resting;
+use crate::trade::trade;
+use market::codes::Side;
 use market::orders::{DarkOrder, Fill, LitOrder};
 use market::prices::is_better;
 use market::quotes::{Quote, nearest};
@@ -14,20 +16,28 @@ use priority::priority::Priority;
 use queue::queue::Queue;
 
 // The better price, and at one price lit before Dark.
-fn nearer(side: Side, lit: Option<Found>, dark: Option<Found>) -> Next
+fn nearer(side: Side, lit: Option<Found>, dark: Option<Found>) -> Option<Met>
     ensures { result ≡ next_of side lit dark }
 {
     match (lit, dark) {
-        (None, None) => Next::Nobody,
-        (None, Some(d)) => Next::Dark(d),
-        (Some(l), None) => Next::Lit(l),
-        (Some(l), Some(d)) => {
-            if is_better(side, d.price, l.price) {
-                Next::Dark(d)
-            } else {
-                Next::Lit(l)
-            }
-        }
+        (Some(l), Some(d)) if is_better(side, d.price, l.price) => Some(Met::Dark(d)),
+        (Some(l), _) => Some(Met::Lit(l)),
+        (None, dark) => dark.map(Met::Dark),
+    }
+}
+
+// The terms on which an active order meets Dark orders under this quote.
+pub fn dark_terms<R: Copy>(
+    quote: &Quote,
+    active: &Active<R>,
+    lits: &Queue<LitOrder<R>>,
+) -> DarkTerms<R>
+    ensures { result ≡ terms_with_lits quote.now active.now (queued lits.now) }
+{
+    DarkTerms {
+        quote: *quote,
+        active: *active,
+        lit: nearest(active.side, lits.orders()),
     }
 }
 
@@ -38,34 +48,21 @@ fn next<R: Copy, D: Priority, L: Priority>(
     g: &Progress<R>,
     darks: &Queue<DarkOrder<R>>,
     lits: &Queue<LitOrder<R>>,
-) -> Next
-    ensures { Finds quote.now (queued darks.now) (queued lits.now) result (choice (orderings_of D.Priority.order L.Priority.order p.now) quote.now (run_of g.now darks.now lits.now)) }
+) -> Option<Met>
+    ensures { Finds quote.now (queued darks.now) (queued lits.now) result (choice (orderings_of D.Priority.order L.Priority.order p.now) quote.now (record { progress = g.now; darks = queued darks.now; lits = queued lits.now })) }
 {
-    let active = g.active;
-    let dark_orders = darks.orders();
-    let lit_orders = lits.orders();
     let lit_terms = LitTerms {
         quote: *quote,
-        active,
+        active: g.active,
     };
-    let dark_terms = DarkTerms {
-        quote: *quote,
-        active,
-        lit: nearest(active.side, lit_orders),
-    };
-    let lit = choose(lit_orders, &lit_terms, &active, Kind::SdlLit, g.lit, &p.lit);
-    let dark = choose(
-        dark_orders,
-        &dark_terms,
-        &active,
-        kind_with_dark(active.form),
-        g.dark,
-        &p.dark,
-    );
-    nearer(active.side, lit, dark)
+    let dark_terms = dark_terms(quote, &g.active, lits);
+    let lit = choose(lits.orders(), &lit_terms, &LitOrder::asker(g), &p.lit);
+    let dark = choose(darks.orders(), &dark_terms, &DarkOrder::asker(g), &p.dark);
+    nearer(g.active.side, lit, dark)
 }
 
-// Trades until nothing remains or nobody may be met.
+// Trades until nothing remains or nobody may be met. The queues come one by one, here and above, and not as a struct: of a
+// queue inside another struct a proof does not know what it leaves in the slice that was lent.
 pub fn sweep<R: Copy, D: Priority, L: Priority>(
     p: &Priorities<D, L>,
     quote: &Quote,
@@ -74,20 +71,19 @@ pub fn sweep<R: Copy, D: Priority, L: Priority>(
     lits: &mut Queue<LitOrder<R>>,
     fills: &mut Queue<Fill<R>>,
 )
-    requires room { fills.old.len + darks.old.len + lits.old.len < room fills.old }
-    requires trades { g.old.trades + darks.old.len + lits.old.len < 1000000 }
-    ensures sweeps { Sweeps (orderings_of D.Priority.order L.Priority.order p.now) quote.now (run_of g.old darks.old lits.old) fills.old (run_of g.new darks.new lits.new) fills.new }
-    ensures darks { SamePlaces darks.old darks.new }
-    ensures lits { SamePlaces lits.old lits.new }
+    requires room { RoomFor 1 (tables darks.old lits.old fills.old) }
+    requires trades { NumbersFor 1 g.old.trades (tables darks.old lits.old fills.old) }
+    ensures sweeps { Sweeps (orderings_of D.Priority.order L.Priority.order p.now) quote.now (run_of g.old (tables darks.old lits.old fills.old)) fills.old (run_of g.new (tables darks.new lits.new fills.new)) fills.new }
+    ensures same { SameTables (tables darks.old lits.old fills.old) (tables darks.new lits.new fills.new) }
 {
     while g.active.remaining > 0 {
         match next(p, quote, g, darks, lits) {
-            Next::Nobody => return,
-            Next::Dark(found) => {
-                let _ = trade_dark(g, darks, found, fills);
+            None => return,
+            Some(Met::Dark(found)) => {
+                let _ = trade(g, darks, found, fills);
             }
-            Next::Lit(found) => {
-                let _ = trade_lit(g, lits, found, fills);
+            Some(Met::Lit(found)) => {
+                let _ = trade(g, lits, found, fills);
             }
         }
     }

@@ -2,35 +2,26 @@
 use Rattle.std.specs.Prelude.{Bool, true, false, not, ◌&&◌, ◌||◌, ◌==◌, nat_le}
 use Rattle.market.specs.declared.codes.Kind.{Kind}
 use Rattle.market.specs.declared.codes.Kind.TheVariants.{SdlDark, SdlLit, DarkDark}
-use Rattle.priority.specs.declared.standing.Standing.{Standing}
-use Rattle.priority.specs.declared.standing.Standing.TheVariants.{FirstAhead, SecondAhead, Level}
+use Rattle.std.specs.declared.cmp.Ordering.{Ordering}
+use Rattle.std.specs.declared.cmp.Ordering.TheVariants.{Less, Equal, Greater}
+use Rattle.std.specs.Ordering.{bool_cmp}
 use Rattle.priority.specs.declared.standing.ActiveView.{ActiveView}
 use Rattle.priority.specs.declared.standing.RestingView.{RestingView}
 
--- the answer with the two orders exchanged
-abbrev pub exchanged : Standing → Standing
-exchanged FirstAhead = SecondAhead
-exchanged SecondAhead = FirstAhead
-exchanged Level = Level
+-- how two resting orders stand to each other: Less where the first is ahead, Greater where the second is, Equal where
+-- they are level
+abbrev pub Standing : Type 0
+Standing = Ordering
 
 -- the first is not behind the second
 abbrev pub NotBehind : Standing → Type 0
-NotBehind FirstAhead = Unit {0}
-NotBehind SecondAhead = ⊥
-NotBehind Level = Unit {0}
+NotBehind Less = Unit {0}
+NotBehind Equal = Unit {0}
+NotBehind Greater = ⊥
 
 -- one that passes a test is ahead of one that does not
 abbrev pub by_test : Bool → Bool → Standing
-by_test true true = Level
-by_test true false = FirstAhead
-by_test false true = SecondAhead
-by_test false false = Level
-
--- the second answer where the first is level
-abbrev pub then_by : Standing → Standing → Standing
-then_by FirstAhead s = FirstAhead
-then_by SecondAhead s = SecondAhead
-then_by Level s = s
+by_test first second = bool_cmp second first
 
 -- jitney marks count, except where an SDL order meets a Dark order
 abbrev pub marks_count : Kind → Bool

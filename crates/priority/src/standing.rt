@@ -1,12 +1,5 @@
-// What a priority is asked, and what it answers.
+// What a priority is asked.
 use market::codes::Kind;
-
-#[derive(Clone, Copy, PartialEq, Eq)]
-pub enum Standing {
-    FirstAhead,
-    SecondAhead,
-    Level,
-}
 
 // What a priority sees of the active order. `need` is what remained of it when its sweep first chose at this price.
 #[derive(Clone, Copy)]

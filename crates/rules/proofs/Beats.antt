@@ -3,14 +3,13 @@
 use Rattle.std.proofs.Common.{◌≡◌, ℕ, Bool, true, false, ◌&&◌, ◌||◌, eqb, Option, refl, arith}
 use Rattle.std.proofs.lemmas.Bool.Decides.{nat_tests}
 use Rattle.market.specs.declared.codes.Side.{Side}
-use Rattle.market.specs.declared.codes.Side.TheVariants.{Buy, Sell}
 use Rattle.market.specs.declared.codes.Kind.{Kind}
 use Rattle.market.specs.Prices.{better}
-use Rattle.priority.specs.declared.standing.Standing.{Standing}
-use Rattle.priority.specs.declared.standing.Standing.TheVariants.{FirstAhead, SecondAhead, Level}
+use Rattle.std.specs.declared.cmp.Ordering.TheVariants.{Less, Equal, Greater}
 use Rattle.priority.specs.declared.standing.ActiveView.{ActiveView}
 use Rattle.priority.specs.declared.standing.RestingView.{RestingView}
-use Rattle.priority.specs.Standings.{exchanged, NotBehind}
+use Rattle.std.specs.Ordering.{ordering_reverse}
+use Rattle.priority.specs.Standings.{Standing, NotBehind}
 use Rattle.matching.specs.declared.active.Active.{Active}
 use Rattle.matching.specs.declared.active.LastLevel.{LastLevel}
 use Rattle.matching.specs.Choice.{Ordering, is_ahead, asking, beats}
@@ -22,28 +21,24 @@ pub record Strict {X : Type 0} (beats : X → X → Bool) : Type 0 where
   pub through : (a b c : X) → beats a b ≡ false → beats b c ≡ false → beats a c ≡ false
 
 one_way_at : (s : Side) (x y : ℕ) (p q : Bool) → (x ≡ y → p ≡ true → q ≡ false) → (better s x y || (eqb x y && p)) ≡ true → (better s y x || (eqb y x && q)) ≡ false
-one_way_at Buy x y p q h e = grind (arith, nat_tests)
-one_way_at Sell x y p q h e = grind (arith, nat_tests)
+one_way_at s x y p q h e = grind (arith, nat_tests)
 
 through_at : (s : Side) (x y z : ℕ) (p q r : Bool) → (x ≡ y → y ≡ z → p ≡ false → q ≡ false → r ≡ false) → (better s x y || (eqb x y && p)) ≡ false →
     (better s y z || (eqb y z && q)) ≡ false → (better s x z || (eqb x z && r)) ≡ false
-through_at Buy x y z p q r h e f = grind (arith, nat_tests)
-through_at Sell x y z p q r h e f = grind (arith, nat_tests)
+through_at s x y z p q r h e f = grind (arith, nat_tests)
 
-ahead_exchanged : (s : Standing) → is_ahead s ≡ true → is_ahead (exchanged s) ≡ false
-ahead_exchanged FirstAhead e = refl
-ahead_exchanged SecondAhead e = cc
-ahead_exchanged Level e = cc
+ahead_exchanged : (s : Standing) → is_ahead s ≡ true → is_ahead (ordering_reverse s) ≡ false
+ahead_exchanged s e = grind arith
 
-not_ahead : (s : Standing) → is_ahead s ≡ false → NotBehind (exchanged s)
-not_ahead FirstAhead e = absurd (let z : ◌≡◌ {A = ℕ} 0 1 = cc in omega arith)
-not_ahead SecondAhead e = tt
-not_ahead Level e = tt
+not_ahead : (s : Standing) → is_ahead s ≡ false → NotBehind (ordering_reverse s)
+not_ahead Less e = absurd (cc)
+not_ahead Greater e = tt
+not_ahead Equal e = tt
 
-not_behind : (s : Standing) → NotBehind s → is_ahead (exchanged s) ≡ false
-not_behind FirstAhead h = refl
-not_behind SecondAhead h = absurd h
-not_behind Level h = refl
+not_behind : (s : Standing) → NotBehind s → is_ahead (ordering_reverse s) ≡ false
+not_behind Greater h = absurd h
+not_behind Less h = refl
+not_behind Equal h = refl
 
 module _ (order : Ordering) (lawful : LawfulOrdering order) (q : ActiveView) where
   turned : (a b : RestingView) → is_ahead (order q a b) ≡ false → NotBehind (order q b a)

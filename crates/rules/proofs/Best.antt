@@ -1,5 +1,5 @@
 -- With a strict preference the pick of a queue is the best of it, and the only one.
-use Rattle.std.proofs.Common.{◌≡◌, ℕ, Bool, true, false, cond, not, ◌&&◌, List, [], ◌∷◌, ◌++◌, Option, refl, ap}
+use Rattle.std.proofs.Common.{◌≡◌, ℕ, Bool, true, false, cond, not, ◌&&◌, List, [], ◌∷◌, ◌++◌, Option, refl, ap, arith}
 use Rattle.std.specs.List.{AllByRecursion}
 use Rattle.std.proofs.ByRecursion.{All-append, All-weaker}
 use Rattle.market.specs.declared.codes.Kind.{Kind}
@@ -58,26 +58,20 @@ module _ {X : Type 0} (able : X → Bool) (prefers : X → X → Bool) where
     at_place : (before : List X) (c : X) (after : List X) → able c ≡ true → AllByRecursion (λ x. able x ≡ true → prefers c x ≡ true) before →
         AllByRecursion (λ x. able x ≡ true → prefers x c ≡ false) after → pick able prefers (before ++ c ∷ after) ≡ found before c after
     at_place [] c after e h k = last c after (pick able prefers after) e k (picks after)
-    at_place (x ∷ xs) c after e h k = rw (at_place xs c after e h.1 k) (go (able x) (prefers c x) h.0)
-      where
-        go : (p q : Bool) → (p ≡ true → q ≡ true) → cond (p && not q) (found [] x (xs ++ c ∷ after)) (found (x ∷ xs) c after) ≡ found (x ∷ xs) c after
-        go true true t = refl
-        go true false t = cc (t refl)
-        go false q t = refl
+    at_place (x ∷ xs) c after e h k = let i = at_place xs c after e h.1 k in rw i (grind (arith, h.0))
 
     -- whoever is best is picked
     pub best_picked : (xs before : List X) (c : X) (after : List X) → Best able prefers xs before c after → pick able prefers xs ≡ found before c after
     best_picked xs before c after h = rw h.split (at_place before c after h.fit h.ahead h.behind)
 
-    level_with_itself : (c : X) (t : Bool) → prefers c c ≡ t → prefers c c ≡ false
-    level_with_itself c true e = strict.one_way c c e
-    level_with_itself c false e = e
+    level_with_itself : (c : X) → prefers c c ≡ false
+    level_with_itself c = grind (arith, strict.one_way c c)
 
     -- no able one beats the best
     pub unbeaten_by : (xs before : List X) (c : X) (after : List X) → Best able prefers xs before c after → AllByRecursion (λ x. able x ≡ true → prefers x c ≡ false) xs
     unbeaten_by xs before c after h =
         rw h.split
-        (All-append _ before (c ∷ after) (All-weaker _ _ (λ x b t. strict.one_way c x (b t)) before h.ahead) (λ _. level_with_itself c (prefers c c) refl, h.behind))
+        (All-append _ before (c ∷ after) (All-weaker _ _ (λ x b t. strict.one_way c x (b t)) before h.ahead) (λ _. level_with_itself c, h.behind))
 
 -- so for every ordering that obeys its laws, whoever is active, whatever the level and however the queue is priced and seen
 module _ {X R : Type 0} (able : X → Bool) (order : Ordering) (lawful : LawfulOrdering order) (a : Active R) (kind : Kind) (last : Option LastLevel) (price : X → ℕ) (view : X → RestingView) where

@@ -1,6 +1,7 @@
 -- A whole call as a function is a step of the book.
-use Rattle.std.proofs.Common.{◌≡◌, ℕ, Bool, true, false, cond, List, [], ◌∷◌, Some, None, Option, sym, refl, ap, ◌∙◌, subst, arith}
-use Rattle.std.specs.List.{AllByRecursion}
+use Rattle.std.specs.Option.{is_none}
+use Rattle.std.proofs.Common.{◌≡◌, Bool, true, false, List, Some, None, Option, refl, ap, subst}
+use Rattle.std.proofs.lemmas.Bool.{both_ways}
 use Rattle.market.specs.declared.ground.Ground.{Ground}
 use Rattle.market.specs.declared.orders.DarkOrder.{DarkOrder}
 use Rattle.market.specs.declared.orders.Fill.{Fill}
@@ -11,8 +12,9 @@ use Rattle.book.specs.declared.call.Request.{Request}
 use Rattle.book.specs.declared.call.Request.TheVariants as request
 use Rattle.book.specs.Requests.{request_of}
 use Rattle.book.specs.Sessions.{session_then, is_continuous}
-use Rattle.book.specs.Grounds.{Facility, State, Memory, Check, first_of, is_none, checks, ground_of, ground_under}
+use Rattle.book.specs.Grounds.{Facility, State, Memory, checks, ground_of, ground_under}
 use Rattle.book.specs.Steps.{active_sdl, Answer, Acts, quotes, joins, enters, seeks, posts, starts, Settling, rests, runs, Step, refused, accepted}
+use Rattle.book.proofs.Passed.{all_pass}
 use Rattle.rules.specs.Play.{PlayedRequest, PlayedCall, enter, act, settle_in, serve, run_on, run_call}
 use Rattle.rules.proofs.Played.{swept}
 use Rattle.rules.proofs.Settled.{settling_ends}
@@ -38,28 +40,18 @@ module _ {R : Type 0} (f : Facility R) (s : Session) where
   settled_in c true e = runs e (settling_ends f.orderings c)
   settled_in c false e = rests e
 
--- where no ground is found, no check fails
-none_fails : (cs : List Check) → first_of cs ≡ None → AllByRecursion (λ c. c.fails ≡ false) cs
-none_fails [] e = tt
-none_fails (c ∷ cs) e = go c.fails refl (none_fails cs) e
-  where
-    go : (t : Bool) → c.fails ≡ t → (first_of cs ≡ None → AllByRecursion (λ c. c.fails ≡ false) cs) → cond t (Some c.ground) (first_of cs) ≡ None →
-        (c.fails ≡ false) × AllByRecursion (λ c. c.fails ≡ false) cs
-    go true h i k = absurd (let z : ◌≡◌ {A = ℕ} 0 1 = cc in omega arith)
-    go false h i k = (h, i k)
-
 module _ {R : Type 0} (f : Facility R) (s : State R) (m : Memory) (x : Call R) where
   -- a call that no ground refuses can be read
   readable : ground_of f s m x ≡ None → is_none (request_of x) ≡ false
   unfolding ground_under
-  readable e = (none_fails (checks f.number f.lot s m x) e).1.1.1.1.0
+  readable e = (all_pass (checks f.number f.lot s m x) e).1.1.1.1.0
 
   -- what the function came to is what the step comes to
   abbrev pub StepsTo : PlayedCall R → Type 0
   StepsTo n = Step f s m x n.answer n.fills n.state
 
   served : ground_of f s m x ≡ None → (p : Option (Request R)) → request_of x ≡ p → StepsTo (serve f s (session_then s.session x) p)
-  served e None h = absurd (let z : true ≡ false = sym (ap is_none h) ∙ readable e in let y : ◌≡◌ {A = ℕ} 0 1 = cc in omega arith)
+  served e None h = absurd (both_ways _ (readable e) (ap is_none h))
   served e (Some q) h =
       accepted e h (acted f s.session s.contents q)
       (settled_in f (session_then s.session x) (act f s.session s.contents q).end (is_continuous (session_then s.session x)) refl)

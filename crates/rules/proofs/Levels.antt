@@ -2,7 +2,6 @@
 use Rattle.std.proofs.Common.{◌≡◌, ℕ, false, cond, eqb, List, [], ◌∷◌, ◌++◌, Some, None, Option, sym, refl, ap, ◌∙◌, arith}
 use Rattle.std.proofs.lemmas.Bool.Decides.{nat_tests}
 use Rattle.market.specs.declared.codes.Side.{Side}
-use Rattle.market.specs.declared.codes.Side.TheVariants.{Buy, Sell}
 use Rattle.market.specs.Prices.{better}
 use Rattle.matching.specs.declared.active.LastLevel.{LastLevel}
 use Rattle.matching.specs.Choice.{need_at}
@@ -29,8 +28,7 @@ no_better_than_last s (Some n) p x h e = no_better_through s x p n.price e h
 -- a level at y, then one at p, asked at x
 two_levels : (s : Side) (y p x need now m : ℕ) → better s p y ≡ false → better s x p ≡ false →
     cond (eqb p x) (cond (eqb y p) need now) m ≡ cond (eqb y x) need (cond (eqb p x) now m)
-two_levels Buy y p x need now m h e = grind (arith, nat_tests)
-two_levels Sell y p x need now m h e = grind (arith, nat_tests)
+two_levels s y p x need now m h e = grind (arith, nat_tests)
 
 moved_on : (s : Side) (last : Option LastLevel) (p x now m : ℕ) → NoBetter s last p → better s x p ≡ false →
     need_at (level_at last p now) x m ≡ need_at last x (cond (eqb p x) now m)

@@ -1,9 +1,7 @@
 -- Where lit orders have prices, a price is better than the nearest lit price just if it is better than that of every lit order
 -- on the other side. So it stays better when a lit order trades.
-use Rattle.std.proofs.Common.{◌≡◌, ℕ, ◌-◌, Bool, true, false, cond, not, ◌&&◌, ◌||◌, eqb, List, [], ◌∷◌, ◌++◌, sym, ap, ◌∙◌, arith}
-use mathlib.Core.Bool.{and-true, and_assoc}
+use Rattle.std.proofs.Common.{◌≡◌, ℕ, ◌-◌, Bool, true, false, cond, not, ◌&&◌, ◌||◌, eqb, List, [], ◌∷◌, ◌++◌, sym, ◌∙◌, arith}
 use Rattle.std.specs.List.{AllByRecursion}
-use Rattle.std.proofs.lemmas.Bool.{and_parts, and_from}
 use Rattle.std.proofs.lemmas.Bool.Decides.{nat_tests}
 use Rattle.market.specs.declared.codes.Side.{Side}
 use Rattle.market.specs.declared.codes.Side.TheVariants.{Buy, Sell}
@@ -25,27 +23,27 @@ all_pass s p [] = true
 all_pass s p (l ∷ ls) = passes s p l.side l.price && all_pass s p ls
 
 offer_step : (side : Side) (m x p : ℕ) → (x ≡ 0 → ⊥) → beyond Buy (lower_offer side m x) p ≡ (beyond Buy m p && passes Buy p side x)
-offer_step Buy m x p h = sym (and-true (beyond Buy m p))
-offer_step Sell m x p h = grind (arith, nat_tests)
+offer_step side m x p h = grind (arith, nat_tests)
 
 bid_step : (side : Side) (m x p : ℕ) → (x ≡ 0 → ⊥) → beyond Sell (higher_bid side m x) p ≡ (beyond Sell m p && passes Sell p side x)
-bid_step Buy m x p h = grind (arith, nat_tests)
-bid_step Sell m x p h = sym (and-true (beyond Sell m p))
+bid_step side m x p h = grind (arith, nat_tests)
 
 module _ {R : Type 0} (p : ℕ) where
   past_offers : (m : ℕ) (ls : List (LitOrder R)) → Priced ls → beyond Buy (best_offer m ls) p ≡ (beyond Buy m p && all_pass Buy p ls)
   unfolding best_offer
-  past_offers m [] h = sym (and-true (beyond Buy m p))
+  past_offers m [] h = grind arith
   past_offers m (l ∷ ls) h =
-      past_offers (lower m l) ls h.1 ∙ (ap (λ t. t && all_pass Buy p ls) (offer_step l.side m l.price p h.0)
-      ∙ and_assoc (beyond Buy m p) (passes Buy p l.side l.price) (all_pass Buy p ls))
+      let i = past_offers (lower m l) ls h.1 in
+      let k = offer_step l.side m l.price p h.0 in
+      grind arith
 
   past_bids : (m : ℕ) (ls : List (LitOrder R)) → Priced ls → beyond Sell (best_bid m ls) p ≡ (beyond Sell m p && all_pass Sell p ls)
   unfolding best_bid
-  past_bids m [] h = sym (and-true (beyond Sell m p))
+  past_bids m [] h = grind arith
   past_bids m (l ∷ ls) h =
-      past_bids (higher m l) ls h.1 ∙ (ap (λ t. t && all_pass Sell p ls) (bid_step l.side m l.price p h.0)
-      ∙ and_assoc (beyond Sell m p) (passes Sell p l.side l.price) (all_pass Sell p ls))
+      let i = past_bids (higher m l) ls h.1 in
+      let k = bid_step l.side m l.price p h.0 in
+      grind arith
 
   past_nearest : (s : Side) (ls : List (LitOrder R)) → Priced ls → beyond s (nearest_lit s ls) p ≡ all_pass s p ls
   unfolding nearest_lit
@@ -60,11 +58,8 @@ all_left P (x ∷ xs) c d after t k h = (h.0, all_left P xs c d after t k h.1)
 
 module _ {R : Type 0} (s : Side) (p n : ℕ) (l : LitOrder R) (after : List (LitOrder R)) where
   pass_left : (before : List (LitOrder R)) (t : Bool) → all_pass s p (before ++ l ∷ after) ≡ true → all_pass s p (before ++ (cond t [] (lit_after n l ∷ []) ++ after)) ≡ true
-  pass_left [] true e = (and_parts (passes s p l.side l.price) (all_pass s p after) e).1
-  pass_left [] false e = e
-  pass_left (x ∷ xs) t e =
-      let k = and_parts (passes s p x.side x.price) (all_pass s p (xs ++ l ∷ after)) e in
-      and_from (passes s p x.side x.price) _ k.0 (pass_left xs t k.1)
+  pass_left [] t e = grind arith
+  pass_left (x ∷ xs) t e = let i = pass_left xs t in grind arith
 
   -- a price better than every lit order's stays so
   pub still_past : (before : List (LitOrder R)) → Priced (before ++ l ∷ after) → beyond s (nearest_lit s (before ++ l ∷ after)) p ≡ true →

@@ -1,5 +1,5 @@
 -- A sweep that remembers one level in each table is the sweep that notes every choice.
-use Rattle.std.proofs.Common.{◌≡◌, ℕ, ◌-◌, Bool, true, false, cond, ◌&&◌, ◌||◌, eqb, List, [], ◌∷◌, ◌++◌, Option, sym, refl, ap, ◌∙◌, ap₂}
+use Rattle.std.proofs.Common.{◌≡◌, ℕ, ◌-◌, Bool, true, false, cond, eqb, List, [], ◌∷◌, ◌++◌, Option, sym, refl, ◌∙◌, ap₂}
 use Rattle.std.specs.List.{AllByRecursion}
 use Rattle.std.proofs.ByRecursion.{All-append, All-weaker}
 use Rattle.market.specs.declared.codes.Kind.{Kind}
@@ -12,7 +12,7 @@ use Rattle.market.specs.Prices.{better}
 use Rattle.priority.specs.declared.standing.RestingView.{RestingView}
 use Rattle.matching.specs.declared.active.Active.{Active}
 use Rattle.matching.specs.declared.active.LastLevel.{LastLevel}
-use Rattle.matching.specs.Choice.{Ordering, is_ahead, need_at, beats}
+use Rattle.matching.specs.Choice.{Ordering, need_at, beats}
 use Rattle.matching.specs.Meets.{price_of_dark, price_of_lit, view_of_dark, view_of_lit}
 use Rattle.matching.specs.Sweep.{Orderings, Run, dark, lit, better_of, best_lit, best_dark, dark_terms, lit_terms, dark_kind, price_under, choice, shares_with, dark_after, lit_after, lit_left, after_dark, after_lit, Swept, ends, meets_dark, meets_lit}
 use Rattle.matching.specs.Settle.{start_of}
@@ -30,8 +30,7 @@ use Rattle.rules.proofs.Reach.{Clear, past_lits, meets_of, no_better_after_lit, 
 -- where the two needs are one, so are the two preferences
 same_beats : {X R : Type 0} (a : Active R) (kind : Kind) (last : Option LastLevel) (ns : List Note) (order : Ordering) (price : X → ℕ) (view : X → RestingView) (x y : X) →
     need_at last (price x) a.remaining ≡ first_need ns (price x) a.remaining → beats a kind last order price view x y ≡ beats_by a kind ns order price view x y
-same_beats a kind last ns order price view x y e =
-    ap (λ n. better a.side (price x) (price y) || (eqb (price x) (price y) && is_ahead (order (record { member = a.member; jitney = a.jitney; need = n; kind = kind }) (view x) (view y)))) e
+same_beats a kind last ns order price view x y e = cc
 
 -- what every sweep keeps: the needs agree, and nobody who may be met has a better price than the last level's
 record Kept {R : Type 0} (q : Quote) (ns : Notes) (r : Run R) : Type 0 where

@@ -20,7 +20,8 @@ use Rattle.market.specs.declared.sizes.Size.TheVariants.{Small, Large}
 use Rattle.market.specs.Grounds.{ground_number}
 use Rattle.market.specs.Quotes.{midpoint_of, dark_price}
 use Rattle.market.specs.Sizes.{size_class}
-use Rattle.priority.specs.Standings.{by_test, then_by, own_order, enough_shares}
+use Rattle.std.specs.Ordering.{ordering_then}
+use Rattle.priority.specs.Standings.{by_test, own_order, enough_shares}
 use Rattle.matching.specs.Choice.{Ordering}
 use Rattle.book.specs.declared.session.Session.TheVariants.{Continuous}
 use Rattle.book.specs.declared.call.Call.{Call}
@@ -40,7 +41,7 @@ enough_size q a b = by_test (enough_shares q a) (enough_shares q b)
 abbrev pub facility : Facility ℕ
 facility =
     record
-    { lot = 100; orderings = record { dark = λ q a b. then_by (own_member q a b) (enough_size q a b); lit = own_member }; number = λ n. n }
+    { lot = 100; orderings = record { dark = λ q a b. ordering_then (own_member q a b) (enough_size q a b); lit = own_member }; number = λ n. n }
 
 -- the memory that the book is lent
 abbrev pub memory : Memory

@@ -7,10 +7,11 @@ use Rattle.market.specs.declared.orders.DarkOrder.{DarkOrder}
 use Rattle.market.specs.declared.orders.LitOrder.{LitOrder}
 use Rattle.market.specs.declared.quotes.Quote.{Quote}
 use Rattle.market.specs.Prices.{better}
-use Rattle.priority.specs.declared.standing.Standing.TheVariants.{Level}
+use Rattle.std.specs.declared.cmp.Ordering.TheVariants.{Equal}
 use Rattle.priority.specs.declared.standing.ActiveView.{ActiveView}
 use Rattle.priority.specs.declared.standing.RestingView.{RestingView}
-use Rattle.priority.specs.Standings.{exchanged, NotBehind}
+use Rattle.std.specs.Ordering.{ordering_reverse}
+use Rattle.priority.specs.Standings.{NotBehind}
 use Rattle.matching.specs.Choice.{Ordering, Best, beats}
 use Rattle.matching.specs.Meets.{may_meet_dark, may_meet_lit, price_of_dark, price_of_lit, view_of_dark, view_of_lit}
 use Rattle.matching.specs.Sweep.{Orderings, Run, Chosen, no_one, dark, lit, dark_terms, lit_terms, dark_kind, price_under, choice}
@@ -18,9 +19,9 @@ use Rattle.matching.specs.Sweep.{Orderings, Run, Chosen, no_one, dark, lit, dark
 -- the laws of a priority
 pub record LawfulOrdering (order : Ordering) : Type 0 where
   -- exchanging the two exchanges the answer
-  pub swapped : (q : ActiveView) (a b : RestingView) → order q b a ≡ exchanged (order q a b)
+  pub swapped : (q : ActiveView) (a b : RestingView) → order q b a ≡ ordering_reverse (order q a b)
   -- an order is level with itself
-  pub same : (q : ActiveView) (a : RestingView) → order q a a ≡ Level
+  pub same : (q : ActiveView) (a : RestingView) → order q a a ≡ Equal
   -- what is not behind one that is not behind a third is not behind the third
   pub chain : (q : ActiveView) (a b c : RestingView) → NotBehind (order q a b) → NotBehind (order q b c) → NotBehind (order q a c)
 

@@ -44,6 +44,11 @@ example_of b =
     (cond (b == 53) (Some example.EnoughSizeFirst)
     (cond (b == 54) (Some example.DarkWithDark) None)))))
 
+-- the bytes of "no such example"
+abbrev pub no_such_example : List ℕ
+no_such_example =
+    110 ∷ 111 ∷ 32 ∷ 115 ∷ 117 ∷ 99 ∷ 104 ∷ 32 ∷ 101 ∷ 120 ∷ 97 ∷ 109 ∷ 112 ∷ 108 ∷ 101 ∷ []
+
 abbrev pub side_code : Side → ℕ
 side_code Buy = 1
 side_code Sell = 2

@@ -1,47 +1,62 @@
 // The six worked examples, as calls on a new book.
-ghost use Rattle.std.specs.Prelude.{◌≡◌};
-ghost use Rattle.rules.specs.Examples.{worked, example_number, example_of, setup_of};
+ghost use Rattle.std.specs.Prelude.{◌≡◌, Some};
+ghost use Rattle.std.specs.Result.{result_ok};
+ghost use Rattle.rules.specs.Examples.{worked, example_number, example_of, no_such_example, setup_of};
 
 use book::call::{Call, DarkEntry, LitEntry, SdlEntry};
+use market::codes::{Contra, Peg, Seek, Side};
 use market::quotes::Away;
+use std::error::Error;
+use std::fmt;
 
 #[derive(Clone, Copy, PartialEq, Eq)]
 pub enum Example {
-    LargeSdl,
-    SmallSdl,
-    SmallSdlBestHere,
-    Caps,
-    EnoughSizeFirst,
-    DarkWithDark,
+    LargeSdl = 1,
+    SmallSdl = 2,
+    SmallSdlBestHere = 3,
+    Caps = 4,
+    EnoughSizeFirst = 5,
+    DarkWithDark = 6,
+}
+
+// What was asked for is none of the six.
+#[derive(Clone, Copy, Debug, PartialEq, Eq)]
+pub struct NoSuchExample;
+
+impl fmt::Display for NoSuchExample {
+    ghost output = { λ _. Some no_such_example };
+
+    fn fmt<W: fmt::Write>(&self, f: &mut fmt::Formatter<W>) -> fmt::Result {
+        write!(f, "no such example")
+    }
+}
+
+impl Error for NoSuchExample {}
+
+// The example that a digit, as text, stands for.
+impl TryFrom<u8> for Example {
+    type Error = NoSuchExample;
+
+    ghost try_from_gives = { λ digit r. result_ok r ≡ example_of digit };
+
+    fn try_from(digit: u8) -> Result<Example, NoSuchExample> {
+        match digit {
+            b'1' => Ok(Example::LargeSdl),
+            b'2' => Ok(Example::SmallSdl),
+            b'3' => Ok(Example::SmallSdlBestHere),
+            b'4' => Ok(Example::Caps),
+            b'5' => Ok(Example::EnoughSizeFirst),
+            b'6' => Ok(Example::DarkWithDark),
+            _ => Err(NoSuchExample),
+        }
+    }
 }
 
 impl Example {
-    // The example that the digit, as text, stands for.
-    pub fn from_digit(digit: u8) -> Option<Example>
-        ensures { result ≡ example_of digit }
-    {
-        match digit {
-            b'1' => Some(Example::LargeSdl),
-            b'2' => Some(Example::SmallSdl),
-            b'3' => Some(Example::SmallSdlBestHere),
-            b'4' => Some(Example::Caps),
-            b'5' => Some(Example::EnoughSizeFirst),
-            b'6' => Some(Example::DarkWithDark),
-            _ => None,
-        }
-    }
-
     pub fn number(self) -> u32
         ensures { result ≡ example_number self }
     {
-        match self {
-            Example::LargeSdl => 1,
-            Example::SmallSdl => 2,
-            Example::SmallSdlBestHere => 3,
-            Example::Caps => 4,
-            Example::EnoughSizeFirst => 5,
-            Example::DarkWithDark => 6,
-        }
+        self as u32
     }
 
     // The calls that bring about the example's book, none of which trades.
@@ -110,21 +125,21 @@ const DEALER_B: u32 = 2;
 const DEALER_C: u32 = 3;
 
 // Codes, as members send them.
-const BUY: u32 = 1;
+const BUY: u32 = Side::Buy as u32;
 
-const SELL: u32 = 2;
+const SELL: u32 = Side::Sell as u32;
 
-const MIDPOINT: u32 = 1;
+const MIDPOINT: u32 = Peg::Midpoint as u32;
 
-const TOUCH: u32 = 2;
+const TOUCH: u32 = Peg::Touch as u32;
 
-const SDL_ONLY: u32 = 1;
+const SDL_ONLY: u32 = Contra::Sdl as u32;
 
-const DARK_ONLY: u32 = 2;
+const DARK_ONLY: u32 = Contra::Dark as u32;
 
-const ALL: u32 = 3;
+const ALL: u32 = Contra::All as u32;
 
-const DARK_AND_LIT: u32 = 1;
+const DARK_AND_LIT: u32 = Seek::DarkAndLit as u32;
 
 // What most entries of a kind have in common; every use gives its own reference and quantity.
 const DARK_BUY: DarkEntry<u32> = DarkEntry {
@@ -202,40 +217,49 @@ static LARGE_SDL: [Call<u32>; 7] = [
     }),
 ];
 
+// The second and the third example differ in the other markets' bid alone: these are the orders of both.
+const MIDPOINT_500: Call<u32> = Call::Dark(DarkEntry {
+    member: DEALER_B,
+    reference: 1,
+    quantity: 500,
+    ..DARK_BUY
+});
+
+const TOUCH_400: Call<u32> = Call::Dark(DarkEntry {
+    member: DEALER_A,
+    reference: 2,
+    quantity: 400,
+    peg: TOUCH,
+    contra: SDL_ONLY,
+    ..DARK_BUY
+});
+
+const LIT_200: Call<u32> = Call::Lit(LitEntry {
+    member: DEALER_A,
+    reference: 101,
+    quantity: 200,
+    price: 1824,
+    ..LIT_BUY
+});
+
+const LIT_600: Call<u32> = Call::Lit(LitEntry {
+    member: DEALER_B,
+    reference: 102,
+    quantity: 600,
+    price: 1820,
+    ..LIT_BUY
+});
+
 static SMALL_SDL: [Call<u32>; 6] = [
     Call::Quote(Away {
         bid: 1824,
         offer: 1832,
     }),
     Call::Start,
-    Call::Dark(DarkEntry {
-        member: DEALER_B,
-        reference: 1,
-        quantity: 500,
-        ..DARK_BUY
-    }),
-    Call::Dark(DarkEntry {
-        member: DEALER_A,
-        reference: 2,
-        quantity: 400,
-        peg: TOUCH,
-        contra: SDL_ONLY,
-        ..DARK_BUY
-    }),
-    Call::Lit(LitEntry {
-        member: DEALER_A,
-        reference: 101,
-        quantity: 200,
-        price: 1824,
-        ..LIT_BUY
-    }),
-    Call::Lit(LitEntry {
-        member: DEALER_B,
-        reference: 102,
-        quantity: 600,
-        price: 1820,
-        ..LIT_BUY
-    }),
+    MIDPOINT_500,
+    TOUCH_400,
+    LIT_200,
+    LIT_600,
 ];
 
 static SMALL_SDL_BEST_HERE: [Call<u32>; 6] = [
@@ -244,34 +268,10 @@ static SMALL_SDL_BEST_HERE: [Call<u32>; 6] = [
         offer: 1832,
     }),
     Call::Start,
-    Call::Dark(DarkEntry {
-        member: DEALER_B,
-        reference: 1,
-        quantity: 500,
-        ..DARK_BUY
-    }),
-    Call::Dark(DarkEntry {
-        member: DEALER_A,
-        reference: 2,
-        quantity: 400,
-        peg: TOUCH,
-        contra: SDL_ONLY,
-        ..DARK_BUY
-    }),
-    Call::Lit(LitEntry {
-        member: DEALER_A,
-        reference: 101,
-        quantity: 200,
-        price: 1824,
-        ..LIT_BUY
-    }),
-    Call::Lit(LitEntry {
-        member: DEALER_B,
-        reference: 102,
-        quantity: 600,
-        price: 1820,
-        ..LIT_BUY
-    }),
+    MIDPOINT_500,
+    TOUCH_400,
+    LIT_200,
+    LIT_600,
 ];
 
 static CAPS: [Call<u32>; 5] = [

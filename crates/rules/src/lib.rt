@@ -8,26 +8,22 @@ ghost use Rattle.rules.specs.Needs.{NeedIsFirst};
 
 pub mod examples;
 
-pub fn cases_stand() -> u8
+#[tactic(auto, using(crate::proofs::Cases::cases))]
+pub fn cases_stand()
     ensures { TwelveCases }
-{
-    0
-}
+{}
 
-pub fn choices_stand() -> u8
+#[tactic(auto, using(crate::proofs::Choosing::choice_is_best))]
+pub fn choices_stand()
     ensures { ChoiceIsBest }
-{
-    0
-}
+{}
 
-pub fn needs_stand() -> u8
+#[tactic(auto, using(crate::proofs::Noting::need_is_first))]
+pub fn needs_stand()
     ensures { NeedIsFirst }
-{
-    0
-}
+{}
 
-pub fn setups_stand() -> u8
+#[tactic(auto, using(crate::proofs::Setups::setups))]
+pub fn setups_stand()
     ensures { SetupsComeOut }
-{
-    0
-}
+{}

@@ -11,7 +11,8 @@ pub struct Dollars {
 }
 
 impl Dollars {
-    // A price in quarter cents: 400 to the dollar, so that each is 25 ten-thousandths.
+    // A price in quarter cents: 400 to the dollar, so that each is 25 ten-thousandths. By a name and not by `From`, since
+    // the number alone does not say its unit.
     pub fn from_units(units: u32) -> Dollars
         ensures sum { result.whole * 10000 + result.ten_thousandths ≡ units * 25 }
         ensures fraction { result.ten_thousandths < 10000 }
@@ -25,8 +26,6 @@ impl Dollars {
 
 impl fmt::Display for Dollars {
     fn fmt<W: fmt::Write>(&self, f: &mut fmt::Formatter<W>) -> fmt::Result {
-        let whole = self.whole;
-        let ten_thousandths = self.ten_thousandths;
-        write!(f, "{whole}.{ten_thousandths:04}")
+        write!(f, "{}.{:04}", self.whole, self.ten_thousandths)
     }
 }

@@ -16,14 +16,14 @@ const ENOUGH: u64 = 4;
 
 fn main(rt: HostRuntime) -> io::Result<()> {
     // What holds of the engine that runs here, as theorems on the contracts of these functions.
-    let _ = rules::cases_stand();
-    let _ = rules::choices_stand();
-    let _ = rules::needs_stand();
-    let _ = rules::setups_stand();
+    rules::cases_stand();
+    rules::choices_stand();
+    rules::needs_stand();
+    rules::setups_stand();
     let mut text = Vec::new(rt.alloc());
     let _ = rt.stdin().take(ENOUGH).read_to_end(&mut text)?;
     match asked(text.as_slice()) {
-        Some(example) => show(&rt, example),
-        None => println!(rt; "no such example"),
+        Ok(example) => show(&rt, example),
+        Err(none) => println!(rt; "{none}"),
     }
 }

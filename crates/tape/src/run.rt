@@ -1,12 +1,13 @@
 // A worked example run through the engine.
-ghost use Rattle.std.specs.Prelude.{◌≡◌, length, Ok, Err};
-ghost use Rattle.book.specs.Steps.{New};
+ghost use Rattle.std.specs.Prelude.{◌≡◌};
+ghost use Rattle.book.specs.Steps.{New, lengths_of};
+ghost use Rattle.rules.specs.Cases.{memory as places};
 ghost use Rattle.tape.specs.Runs.{Brought, ComesTo};
 
 use book::book::Book;
 use book::call::Call;
+use book::memory::Memory;
 use market::ground::Ground;
-use market::orders::{DarkOrder, Fill, LitOrder};
 use matching::active::Priorities;
 use priority::priority::{EnoughSize, OwnMember, Pile};
 use rules::examples::Example;
@@ -24,94 +25,72 @@ pub struct Outcome {
     pub cancelled: u32,
 }
 
-// Why a run ended early.
+// A call of an example that was refused, by its place among the calls.
 #[derive(Clone, Copy)]
-pub enum Stop {
-    NoBook(Ground),
-    Refused { call: usize, ground: Ground },
+pub struct Refused {
+    pub call: usize,
+    pub ground: Ground,
 }
 
-impl fmt::Display for Stop {
+impl fmt::Display for Refused {
     fn fmt<W: fmt::Write>(&self, f: &mut fmt::Formatter<W>) -> fmt::Result {
-        match self {
-            Stop::NoBook(ground) => {
-                let number = ground.number();
-                write!(f, "no book: ground {number}")
-            }
-            Stop::Refused { call, ground } => {
-                let number = ground.number();
-                write!(f, "call {call} refused: ground {number}")
-            }
-        }
+        write!(
+            f,
+            "call {} refused: ground {}",
+            self.call,
+            self.ground.number()
+        )
     }
 }
 
-// A book at lot 100, which is never refused.
-fn new_book() -> Result<FacilityBook, Ground>
-    ensures { elim result [ Ok b ↦ New 100 b.priorities b | Err _ ↦ ⊥ ] }
+// A book at lot 100, which is a lot that there is.
+fn new_book() -> FacilityBook
+    ensures { New 100 result.priorities result }
 {
     let dark = Pile {
         upper: OwnMember,
         lower: EnoughSize,
     };
-    Book::new(
-        LOT,
-        Priorities {
-            dark,
-            lit: OwnMember,
-        },
-    )
+    let priorities = Priorities {
+        dark,
+        lit: OwnMember,
+    };
+    Book::new(LOT, priorities).unwrap()
 }
 
 // Every call in turn, up to the first that is refused.
 fn bring_about(
     book: &mut FacilityBook,
-    dark: &mut [DarkOrder<u32>],
-    lit: &mut [LitOrder<u32>],
-    fills: &mut [Fill<u32>],
+    memory: &mut Memory<u32>,
     calls: &[Call<u32>],
-) -> Result<(), Stop>
+) -> Result<(), Refused>
     requires lot { book.old.core.lot ≡ 100 }
-    requires darks { length dark.old ≡ 256 }
-    requires lits { length lit.old ≡ 256 }
-    requires fills { length fills.old ≡ 513 }
+    requires memory { lengths_of memory.old ≡ places }
     ensures lot { book.new.core.lot ≡ 100 }
-    ensures brought { Brought calls.now book.old dark.old lit.old result book.new dark.new lit.new }
+    ensures memory { lengths_of memory.new ≡ places }
+    ensures brought { Brought calls.now book.old memory.old result book.new memory.new }
 {
-    for i in 0..calls.len() {
-        if let Err(ground) = book.apply(dark, lit, fills, &calls[i]) {
-            return Err(Stop::Refused {
-                call: i + 1,
-                ground,
-            });
-        }
+    for (i, call) in calls.iter().enumerate() {
+        let place = i + 1;
+        let _ = book.apply(memory, call).map_err(|ground| Refused {
+            call: place,
+            ground,
+        })?;
     }
     Ok(())
 }
 
-// An example's calls on a new book; its trades are the first places of `fills`.
-pub fn run(
-    example: Example,
-    dark: &mut [DarkOrder<u32>],
-    lit: &mut [LitOrder<u32>],
-    fills: &mut [Fill<u32>],
-) -> Result<Outcome, Stop>
-    requires darks { length dark.old ≡ 256 }
-    requires lits { length lit.old ≡ 256 }
-    requires fills { length fills.old ≡ 513 }
-    ensures { ComesTo example result fills.new }
+// An example's calls on a new book; its trades are the first places of the list that is lent.
+pub fn run(example: Example, memory: &mut Memory<u32>) -> Result<Outcome, Refused>
+    requires { lengths_of memory.old ≡ places }
+    ensures { ComesTo example result memory.new.fills.now }
 {
-    let mut book = match new_book() {
-        Ok(book) => book,
-        Err(ground) => return Err(Stop::NoBook(ground)),
-    };
+    let mut book = new_book();
     let calls = example.setup();
-    bring_about(&mut book, dark, lit, fills, calls)?;
-    match book.apply(dark, lit, fills, &example.last()) {
-        Ok((trades, _, cancelled)) => Ok(Outcome { trades, cancelled }),
-        Err(ground) => Err(Stop::Refused {
-            call: calls.len() + 1,
-            ground,
-        }),
-    }
+    bring_about(&mut book, memory, calls)?;
+    let last = calls.len() + 1;
+    let (trades, _, cancelled) = book
+        .apply(memory, &example.last())
+        .map_err(|ground| Refused { call: last, ground })?;
+    Ok(Outcome { trades, cancelled })
 }

@@ -49,6 +49,9 @@ impl<'a, T: Copy> Queue<'a, T> {
         self.len += 1;
     }
 
+    // That a queue stands on the same places afterwards, as the last three say, relates what was to what is: no invariant of a
+    // queue can say it.
+
     // Takes the one at `i` out; those after it move up.
     pub fn remove(&mut self, i: usize) -> T
         requires { i < self.old.len }
@@ -58,11 +61,8 @@ impl<'a, T: Copy> Queue<'a, T> {
         ensures same { SamePlaces self.old self.new }
     {
         let x = self.places[i];
-        let last = self.len - 1;
-        for k in i..last {
-            self.places[k] = self.places[k + 1];
-        }
-        self.len = last;
+        self.places.copy_within(i + 1..self.len, i);
+        self.len -= 1;
         x
     }
 

@@ -1,37 +1,45 @@
-use Rattle.std.proofs.Common.{refl, ◌∙◌}
-use Rattle.book.specs.Steps.{state_of}
-use Rattle.rules.specs.Cases.{book_of}
+use Rattle.std.proofs.Common.{◌≡◌, Ok, Result, sym, ap, ◌∙◌}
+use Rattle.std.specs.Result.{result_unwrap_or}
+use Rattle.book.specs.Steps.{Called, state_in}
+use Rattle.rules.specs.Cases.{facility, memory, book_of}
 use Rattle.rules.specs.Examples.{worked}
 use Rattle.tape.proofs.Outcomes.{set_up, answered, came_out}
-use Rattle.tape.proofs.Turns.{as_called, not_refused}
+use Rattle.tape.proofs.Turns.{as_called, kept, not_refused}
+use Rattle.tape.proofs.run.run.Goals.{After-apply}
 use Rattle.tape.proofs.run.run.Goals as goal
+
+same_counts : {X F : Type 0} (x y : X) → ◌≡◌ {A = Result X F} (Ok x) (Ok y) → x ≡ y
+same_counts x y e = ap (λ r. result_unwrap_or r x) e
 
 pub returns-in_err-bring_about : goal.returns-in_err-bring_about
 returns-in_err-bring_about c =
     let e = c.args.example in
-    let w = set_up c.in-Ok.book c.args.dark.now c.args.lit.now c.in-Ok.ensures e c.setup-calls.result.now c.setup-calls.ensures in
+    let m = c.args.memory.now in
+    let w = set_up c.new_book-book.result m.dark.now m.lit.now c.new_book-book.ensures e c.setup-calls.result.now c.setup-calls.ensures in
     absurd (c.in_err-bring_about.ensures.brought (book_of (worked e)) w).0
 
-pub returns-in-Ok-apply : goal.returns-in-Ok-apply
-returns-in-Ok-apply c =
+-- the book that the setup brought about
+the_book : (c : After-apply) → state_in c.bring_about.new.book c.bring_about.new.memory ≡ book_of (worked c.args.example)
+the_book c =
     let e = c.args.example in
-    let w = set_up c.in-Ok.book c.args.dark.now c.args.lit.now c.in-Ok.ensures e c.setup-calls.result.now c.setup-calls.ensures in
-    let o = c.bring_about.new in
-    let l = c.bring_about.auto in
-    let a = c.apply.new in
-    let k =
-    as_called {b = o.book} {b' = a.self} {dark = o.dark} {dark' = a.dark} {lit = o.lit} {lit' = a.lit} {fills = o.fills} {fills' = a.fills}
-    c.last.result c.bring_about.ensures.lot (l.dark ∙ c.requires.darks) (l.lit ∙ c.requires.lits) (l.fills ∙ c.requires.fills) c.in-Ok-apply.ensures in
-    came_out e (state_of o.book o.dark o.lit) c.last.result o.fills _ (state_of a.self a.dark a.lit) a.fills (c.in_ok-bring_about.ensures.brought (book_of (worked e)) w).1 c.last.ensures k _ _ _ refl
+    let m = c.args.memory.now in
+    let w = set_up c.new_book-book.result m.dark.now m.lit.now c.new_book-book.ensures e c.setup-calls.result.now c.setup-calls.ensures in
+    (c.in_ok-bring_about.ensures.brought (book_of (worked e)) w).1
 
-pub returns-in-Err-apply : goal.returns-in-Err-apply
-returns-in-Err-apply c =
-    let e = c.args.example in
-    let w = set_up c.in-Ok.book c.args.dark.now c.args.lit.now c.in-Ok.ensures e c.setup-calls.result.now c.setup-calls.ensures in
-    let o = c.bring_about.new in
-    let l = c.bring_about.auto in
-    let a = c.apply.new in
-    let k =
-    as_called {b = o.book} {b' = a.self} {dark = o.dark} {dark' = a.dark} {lit = o.lit} {lit' = a.lit} {fills = o.fills} {fills' = a.fills}
-    c.last.result c.bring_about.ensures.lot (l.dark ∙ c.requires.darks) (l.lit ∙ c.requires.lits) (l.fills ∙ c.requires.fills) c.in-Err-apply.ensures in
-    not_refused (answered e (state_of o.book o.dark o.lit) c.last.result o.fills _ (state_of a.self a.dark a.lit) a.fills (c.in_ok-bring_about.ensures.brought (book_of (worked e)) w).1 c.last.ensures k)
+-- the call that trades, as one of the facility
+the_call : (c : After-apply) → Called facility (state_in c.bring_about.new.book c.bring_about.new.memory) memory c.last.result c.bring_about.new.memory.fills.now
+    c.apply.result (state_in c.apply.new.self c.apply.new.memory) c.apply.new.memory.fills.now
+the_call c = as_called c.last.result c.bring_about.ensures.lot c.bring_about.ensures.memory c.apply.ensures
+
+pub returns-in_err-trades : goal.returns-in_err-trades
+returns-in_err-trades c =
+    let k = (goal.at.returns-in_err-trades c).After-apply in
+    let a = answered c.args.example _ _ _ _ _ _ (the_book k) c.last.ensures (the_call k) in
+    absurd (not_refused (sym (kept _ c.apply.result c.map_err.result _ c.map_err.ensures.cases a) ∙ c.in_err-trades.was))
+
+pub returns : goal.returns
+returns c =
+    let k = (goal.at.returns c).After-apply in
+    let a = answered c.args.example _ _ _ _ _ _ (the_book k) c.last.ensures (the_call k) in
+    came_out c.args.example _ _ _ _ _ _ (the_book k) c.last.ensures (the_call k) _ _ _
+    (sym a ∙ ap Ok (same_counts _ _ (sym (kept _ c.apply.result c.map_err.result _ c.map_err.ensures.cases a) ∙ c.in_ok-trades.was)))

@@ -1,4 +1,0 @@
-use Rattle.book.proofs.book.Book.enter_dark.Goals as goal
-
-pub returns : goal.returns
-returns g c = c.apply.ensures
