@@ -257,19 +257,15 @@ impl Bench {
 
     // The nth resting Dark order.
     pub fn resting_dark(&self, n: usize) -> Option<Resting> {
-        self.dark
-            .iter()
-            .take(self.book.resting_darks())
-            .nth(n)
+        self.dark[..self.book.resting_darks()]
+            .get(n)
             .map(Resting::from)
     }
 
     // The nth resting lit order.
     pub fn resting_lit(&self, n: usize) -> Option<Resting> {
-        self.lit
-            .iter()
-            .take(self.book.resting_lits())
-            .nth(n)
+        self.lit[..self.book.resting_lits()]
+            .get(n)
             .map(Resting::from)
     }
 

@@ -2,6 +2,7 @@
 use Rattle.std.specs.Prelude.{ℕ, Bool, not, ◌&&◌, ◌==◌, nat_le}
 use Rattle.market.specs.declared.orders.DarkOrder.{DarkOrder}
 use Rattle.market.specs.declared.orders.LitOrder.{LitOrder}
+use Rattle.market.specs.declared.orders.Party.{Party}
 use Rattle.market.specs.Prices.{valid_price, cap_or_none}
 use Rattle.market.specs.Lots.{valid_quantity, valid_minimum}
 
@@ -19,3 +20,11 @@ sound_dark number lot d =
 unfoldable pub sound_lit : {R : Type 0} → (R → ℕ) → ℕ → LitOrder R → Bool
 sound_lit number lot l =
     valid_member l.member && (not (number l.reference == 0) && (valid_price l.price && valid_quantity lot l.remaining))
+
+-- whose a Dark order is
+abbrev pub dark_party : {R : Type 0} → DarkOrder R → Party R
+dark_party d = record { member = d.member; reference = d.reference }
+
+-- whose a lit order is
+abbrev pub lit_party : {R : Type 0} → LitOrder R → Party R
+lit_party l = record { member = l.member; reference = l.reference }

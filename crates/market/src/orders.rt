@@ -1,7 +1,8 @@
 // The records of the book: what rests, and what a trade leaves to tell. A default record fills a place of a lent table before
 // anything rests there.
 ghost use Rattle.std.specs.Prelude.{◌≡◌, ℕ};
-ghost use Rattle.market.specs.Orders.{valid_member, sound_dark, sound_lit};
+ghost use Rattle.market.specs.declared.orders.Party.{Party as TheParty};
+ghost use Rattle.market.specs.Orders.{valid_member, sound_dark, sound_lit, dark_party, lit_party};
 
 use crate::codes::{Contra, Kind, Peg, Side};
 use crate::lots::{is_valid_minimum, is_valid_quantity};
@@ -39,6 +40,36 @@ pub struct LitOrder<R> {
 pub struct Party<R> {
     pub member: u32,
     pub reference: R,
+}
+
+// An order that has an owner, and the owner's name for it.
+pub trait HasParty<R> {
+    ghost party: { Self → TheParty R };
+
+    fn party(&self) -> Party<R>
+        ensures { result ≡ party self.now };
+}
+
+impl<R: Copy> HasParty<R> for DarkOrder<R> {
+    ghost party = { dark_party };
+
+    fn party(&self) -> Party<R> {
+        Party {
+            member: self.member,
+            reference: self.reference,
+        }
+    }
+}
+
+impl<R: Copy> HasParty<R> for LitOrder<R> {
+    ghost party = { lit_party };
+
+    fn party(&self) -> Party<R> {
+        Party {
+            member: self.member,
+            reference: self.reference,
+        }
+    }
 }
 
 // A trade.

@@ -9,6 +9,7 @@ use Rattle.market.specs.declared.orders.LitOrder.{LitOrder}
 use Rattle.market.specs.declared.orders.Party.{Party}
 use Rattle.market.specs.declared.orders.Fill.{Fill}
 use Rattle.market.specs.declared.quotes.Quote.{Quote}
+use Rattle.market.specs.Orders.{dark_party, lit_party}
 use Rattle.market.specs.Prices.{better}
 use Rattle.market.specs.Quotes.{dark_price, nearest_lit}
 use Rattle.queue.specs.declared.queue.Queue.{Queue}
@@ -181,14 +182,6 @@ fill_of number a b shares price kind = fill_for a.side number (record { member =
 -- the lesser of what remains of both
 abbrev pub shares_with : {R : Type 0} → Progress R → ℕ → ℕ
 shares_with g remaining = min g.active.remaining remaining
-
--- a Dark order's end of a trade
-abbrev pub dark_party : {R : Type 0} → DarkOrder R → Party R
-dark_party d = record { member = d.member; reference = d.reference }
-
--- a lit order's end of a trade
-abbrev pub lit_party : {R : Type 0} → LitOrder R → Party R
-lit_party l = record { member = l.member; reference = l.reference }
 
 -- the fill of a trade with a Dark order at p
 abbrev pub dark_fill : {R : Type 0} → ℕ → Progress R → DarkOrder R → Fill R

@@ -1,24 +1,21 @@
 // What a trade does with a resting order of either table.
 ghost use Rattle.std.specs.Prelude.{◌≡◌, ℕ, ◌+◌, ◌-◌, ◌<◌, ◌≤◌, min, List, ◌++◌, take, drop};
 ghost use Rattle.std.proofs.Common.{rules};
-ghost use Rattle.market.specs.declared.orders.Party.{Party as TheParty};
 ghost use Rattle.queue.specs.Queues.{queued, room, SamePlaces};
 ghost use Rattle.matching.specs.declared.active.Progress.{Progress as TheProgress};
 ghost use Rattle.matching.specs.declared.choose.Asker.{Asker as TheAsker};
-ghost use Rattle.matching.specs.Sweep.{asks_darks, asks_lits, dark_party, lit_party, dark_after, lit_after, dark_left, dark_back, lit_back, dark_progress, lit_progress};
+ghost use Rattle.matching.specs.Sweep.{asks_darks, asks_lits, dark_after, lit_after, dark_left, dark_back, lit_back, dark_progress, lit_progress};
 
 use crate::active::{Form, Progress};
 use crate::choose::{Asker, Offer};
 use market::codes::Kind;
-use market::orders::{DarkOrder, LitOrder, Party};
+use market::orders::{DarkOrder, HasParty, LitOrder};
 use queue::queue::Queue;
 
 // A resting order in a trade. Its table says how the active order asks there, where what is left of a resting order
 // goes, and which level the sweep notes.
-pub trait Resting<R>: Offer + Copy {
+pub trait Resting<R>: Offer + HasParty<R> + Copy {
     ghost asker: { TheProgress R → TheAsker R };
-
-    ghost party: { Self → TheParty R };
 
     ghost remaining: { Self → ℕ };
 
@@ -33,9 +30,6 @@ pub trait Resting<R>: Offer + Copy {
 
     fn asker(g: &Progress<R>) -> Asker<R>
         ensures { result ≡ asker g.now };
-
-    fn party(&self) -> Party<R>
-        ensures { result ≡ party self.now };
 
     fn remaining(&self) -> u32
         ensures { result ≡ remaining self.now };
@@ -77,8 +71,6 @@ pub fn join<R: Copy>(darks: &mut Queue<DarkOrder<R>>, d: DarkOrder<R>)
 impl<R: Copy> Resting<R> for DarkOrder<R> {
     ghost asker = { asks_darks };
 
-    ghost party = { dark_party };
-
     ghost remaining = { λ d. d.remaining };
 
     ghost after = { dark_after };
@@ -100,13 +92,6 @@ impl<R: Copy> Resting<R> for DarkOrder<R> {
             active: g.active,
             kind,
             last: g.dark,
-        }
-    }
-
-    fn party(&self) -> Party<R> {
-        Party {
-            member: self.member,
-            reference: self.reference,
         }
     }
 
@@ -144,8 +129,6 @@ impl<R: Copy> Resting<R> for DarkOrder<R> {
 impl<R: Copy> Resting<R> for LitOrder<R> {
     ghost asker = { asks_lits };
 
-    ghost party = { lit_party };
-
     ghost remaining = { λ l. l.remaining };
 
     ghost after = { lit_after };
@@ -163,13 +146,6 @@ impl<R: Copy> Resting<R> for LitOrder<R> {
             active: g.active,
             kind: Kind::SdlLit,
             last: g.lit,
-        }
-    }
-
-    fn party(&self) -> Party<R> {
-        Party {
-            member: self.member,
-            reference: self.reference,
         }
     }
 

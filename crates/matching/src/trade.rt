@@ -47,7 +47,7 @@ fn fill_with<R: Copy, T: Resting<R>>(
     shares: u32,
     price: u32,
 ) -> Fill<R>
-    ensures { result ≡ fill_of number g.now.active (T.Resting.party order.now) shares price (T.Resting.asker g.now).kind }
+    ensures { result ≡ fill_of number g.now.active (T.HasParty.party order.now) shares price (T.Resting.asker g.now).kind }
 {
     let own = Party {
         member: g.active.member,
@@ -82,7 +82,7 @@ pub fn trade<R: Copy, T: Resting<R>>(
     ensures order { result ≡ slice_index_or (queued queue.old) found.at result }
     ensures progress { g.new ≡ T.Resting.progress (shares_with g.old (T.Resting.remaining result)) found.price g.old }
     ensures list { queued queue.new ≡ T.Resting.back (take found.at (queued queue.old)) (T.Resting.after (shares_with g.old (T.Resting.remaining result)) result) (drop (found.at + 1) (queued queue.old)) }
-    ensures fills { Appended fills.old (fill_of (g.old.trades + 1) g.old.active (T.Resting.party result) (shares_with g.old (T.Resting.remaining result)) found.price (T.Resting.asker g.old).kind ∷ []) fills.new }
+    ensures fills { Appended fills.old (fill_of (g.old.trades + 1) g.old.active (T.HasParty.party result) (shares_with g.old (T.Resting.remaining result)) found.price (T.Resting.asker g.old).kind ∷ []) fills.new }
     ensures more { fills.new.len ≡ fills.old.len + 1 }
     ensures spends { queue.new.len + min 1 g.new.active.remaining ≤ queue.old.len }
     ensures same { SamePlaces queue.old queue.new }

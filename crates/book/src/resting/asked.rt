@@ -41,16 +41,16 @@ impl<'a, R: Reference> RestingOrders<'a, R> {
 
     // Whether an order of the table `own` may stand there.
     fn is_fine<T: Listed<R>>(&self, own: &[T], order: &T) -> bool
-        ensures { result ≡ fine R.Reference.number T.Listed.owner T.Listed.label (T.Listed.sound self.now.core.now.lot) own.now self.now.darks.now self.now.lits.now order.now }
+        ensures { result ≡ fine R.Reference.number (λ x. (T.HasParty.party x).member) (λ x. (T.HasParty.party x).reference) (T.Listed.sound self.now.core.now.lot) own.now self.now.darks.now self.now.lits.now order.now }
     {
         order.may_rest(self.core.lot)
-            && count_of(own, order.member()) <= 16
-            && self.count_references(order.member(), &order.reference()) <= 1
+            && count_of(own, order.party().member) <= 16
+            && self.count_references(order.party().member, &order.party().reference) <= 1
     }
 
     // Whether every order of the table `own` may stand there.
     fn is_table_fine<T: Listed<R>>(&self, own: &[T]) -> bool
-        ensures { result ≡ list_all (fine R.Reference.number T.Listed.owner T.Listed.label (T.Listed.sound self.now.core.now.lot) own.now self.now.darks.now self.now.lits.now) own.now }
+        ensures { result ≡ list_all (fine R.Reference.number (λ x. (T.HasParty.party x).member) (λ x. (T.HasParty.party x).reference) (T.Listed.sound self.now.core.now.lot) own.now self.now.darks.now self.now.lits.now) own.now }
     {
         own.iter().all(|order| self.is_fine(own, order))
     }
