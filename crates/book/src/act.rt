@@ -99,12 +99,7 @@ impl Core {
         ensures same { SameTables (tables darks.old lits.old fills.old) (tables darks.new lits.new fills.new) }
     {
         let quote = Quote::of(self.away, lits.orders());
-        let mut g = Progress {
-            active: o.activate(self.lot, &quote),
-            trades: self.trades,
-            dark: None,
-            lit: None,
-        };
+        let mut g = Progress::new(o.activate(self.lot, &quote), self.trades);
         sweep(p, &quote, &mut g, darks, lits, fills);
         self.trades = g.trades;
         let remaining = g.active.remaining;

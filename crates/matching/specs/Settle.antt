@@ -10,6 +10,7 @@ use Rattle.market.specs.Quotes.{quote_of}
 use Rattle.queue.specs.declared.queue.Queue.{Queue}
 use Rattle.queue.specs.Queues.{queued, Appended}
 use Rattle.matching.specs.declared.active.Active.{Active}
+use Rattle.matching.specs.declared.active.Progress.{Progress}
 use Rattle.matching.specs.declared.active.DarkForm.{DarkForm}
 use Rattle.matching.specs.Tables.{Tables}
 use Rattle.matching.specs.declared.active.Form.TheVariants as form
@@ -49,9 +50,13 @@ active_dark d =
       form = form.Dark (form_of d);
     }
 
+-- a sweep about to begin, which has chosen at no level yet
+abbrev pub not_begun : {R : Type 0} → ℕ → Active R → Progress R
+not_begun trades a = record { active = a; trades = trades; dark = None; lit = None }
+
 -- a sweep that begins
 abbrev pub start_of : {R : Type 0} → ℕ → Active R → List (DarkOrder R) → List (LitOrder R) → Run R
-start_of trades a ds ls = record { progress = record { active = a; trades = trades; dark = None; lit = None }; darks = ds; lits = ls }
+start_of trades a ds ls = record { progress = not_begun trades a; darks = ds; lits = ls }
 
 -- what a Dark order that swept leaves to rest
 abbrev pub dark_kept : {R : Type 0} → DarkOrder R → Active R → DarkOrder R

@@ -97,12 +97,7 @@ pub fn sweep_dark<R: Copy, D: Priority, L: Priority>(
     ensures swept { SweptDark (orderings_of D.Priority.order L.Priority.order p.now) quote.now quote.now.away trades.old d.now (queued darks.old) (queued lits.old) fills.old result (contents_of quote.now.away trades.new (tables darks.new lits.new fills.new)) fills.new }
     ensures same { SameTables (tables darks.old lits.old fills.old) (tables darks.new lits.new fills.new) }
 {
-    let mut g = Progress {
-        active: Active::from(d),
-        trades: *trades,
-        dark: None,
-        lit: None,
-    };
+    let mut g = Progress::new(Active::from(d), *trades);
     sweep(p, quote, &mut g, darks, lits, fills);
     *trades = g.trades;
     join(darks, keep(d, &g.active));

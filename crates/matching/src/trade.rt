@@ -2,6 +2,7 @@
 ghost use Rattle.std.specs.Prelude.{◌≡◌, ◌+◌, ◌<◌, ◌≤◌, min, [], ◌∷◌, take, drop, slice_index_or};
 ghost use Rattle.queue.specs.Queues.{queued, room, SamePlaces, Appended};
 ghost use Rattle.matching.specs.Sweep.{active_after, traded, fill_of, shares_with};
+ghost use Rattle.matching.specs.Settle.{not_begun};
 
 use crate::active::{Active, Found, Progress};
 use crate::resting::Resting;
@@ -25,6 +26,18 @@ impl<R: Copy> Active<R> {
 }
 
 impl<R: Copy> Progress<R> {
+    // A sweep about to begin: it has chosen at no level yet.
+    pub fn new(active: Active<R>, trades: u32) -> Progress<R>
+        ensures { result ≡ not_begun trades active }
+    {
+        Progress {
+            active,
+            trades,
+            dark: None,
+            lit: None,
+        }
+    }
+
     // How far the sweep has come after a trade of so many shares, but for the level that it notes.
     pub fn after(&self, shares: u32) -> Progress<R>
         requires remaining { shares ≤ self.now.active.remaining }

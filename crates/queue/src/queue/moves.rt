@@ -26,8 +26,7 @@ impl<'a, T: Copy> Queue<'a, T> {
     pub fn orders(&self) -> &[T]
         ensures { result.now ≡ queued self.now }
     {
-        let n = self.len;
-        &self.places[0..n]
+        &self.places[..self.len]
     }
 
     // The one at `i`.
@@ -35,8 +34,7 @@ impl<'a, T: Copy> Queue<'a, T> {
         requires { i < self.now.len }
         ensures { result ≡ slice_index_or (queued self.now) i result }
     {
-        let orders = self.orders();
-        orders[i]
+        self.orders()[i]
     }
 
     // One more, last.

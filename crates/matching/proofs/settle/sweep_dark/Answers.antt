@@ -3,9 +3,9 @@ use Rattle.market.specs.declared.orders.DarkOrder.{DarkOrder}
 use Rattle.queue.specs.Queues.{queued}
 use Rattle.queue.proofs.Appends.{queued_length}
 use Rattle.matching.specs.Tables.{tables}
-use Rattle.matching.specs.declared.active.Active.{Active}
+use Rattle.matching.specs.declared.active.Progress.{Progress}
 use Rattle.matching.specs.Sweep.{Orderings, orderings_of, Run, run_of, dark_left, Sweeps}
-use Rattle.matching.specs.Settle.{start_of}
+use Rattle.matching.specs.Settle.{not_begun}
 use Rattle.matching.proofs.Counts.{swept_shorter}
 use Rattle.matching.proofs.settle.sweep_dark.Goals as goal
 
@@ -26,8 +26,8 @@ returns-clause-swept g c =
     record {
       run = run;
       swept =
-          subst (λ (a : Active g.row.R.Denot). Sweeps o q (start_of c.args.trades.now a (queued was.darks) (queued was.lits)) was.fills run t.new.fills)
-          c.from.ensures t.ensures.sweeps;
+          subst (λ (p : Progress g.row.R.Denot). Sweeps o q (run_of p was) was.fills run t.new.fills)
+          (c.new-g.ensures ∙ ap (not_begun c.args.trades.now) c.from.ensures) t.ensures.sweeps;
       contents =
           ap (λ (ds : List (DarkOrder g.row.R.Denot)). record { away = q.away; trades = t.new.g.trades; darks = ds; lits = queued t.new.lits })
           (c.join.ensures.list ∙ ap (λ x. queued t.new.darks ++ dark_left x) c.keep.ensures);
