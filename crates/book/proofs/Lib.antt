@@ -4,3 +4,4 @@ pub mod Finish
 pub mod Firsts
 pub mod Once
 pub mod Passed
+pub mod Tallies

@@ -30,15 +30,21 @@ impl<R: Reference> Listed<R> for LitOrder<R> {
     }
 }
 
+// The two counts are asked for each order that rests, with every call. They fold by an `if`, which is as quick as a loop:
+// `filter` and `count` are not, nor is a sum of ones. `wrapping_add` never wraps, as no list is so long.
+
 // How many orders the member has in a table.
 pub fn count_of<R: Reference, T: HasParty<R>>(orders: &[T], member: u32) -> usize
     ensures count { result ≡ count_by (of_member (λ x. (T.HasParty.party x).member) member) orders.now }
     ensures most { result ≤ length orders.now }
 {
-    orders
-        .iter()
-        .filter(|order| order.party().member == member)
-        .count()
+    orders.iter().fold(0, |n: usize, order| {
+        if order.party().member == member {
+            n.wrapping_add(1)
+        } else {
+            n
+        }
+    })
 }
 
 // How many orders the member has in a table under this reference. The two come apart: an entry has them as fields of its own,
@@ -47,8 +53,11 @@ pub fn count_named<R: Reference, T: HasParty<R>>(orders: &[T], member: u32, refe
     ensures count { result ≡ count_by (named R.Reference.number (λ x. (T.HasParty.party x).member) (λ x. (T.HasParty.party x).reference) member reference.now) orders.now }
     ensures most { result ≤ length orders.now }
 {
-    orders
-        .iter()
-        .filter(|order| order.party().member == member && order.party().reference == *reference)
-        .count()
+    orders.iter().fold(0, |n: usize, order| {
+        if order.party().member == member && order.party().reference.same(reference) {
+            n.wrapping_add(1)
+        } else {
+            n
+        }
+    })
 }

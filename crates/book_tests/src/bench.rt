@@ -3,7 +3,6 @@ use crate::entries::member_of;
 use book::book::Book;
 use book::call::{Call, DarkEntry, LitEntry, SdlEntry};
 use book::memory::Memory;
-use market::codes::Kind;
 use market::ground::Ground;
 use market::orders::{DarkOrder, Fill, LitOrder};
 use market::quotes::Away;
@@ -21,7 +20,7 @@ pub fn done(fills: u32, traded: u32, cancelled: u32) -> Answer {
     Ok((fills, traded, cancelled))
 }
 
-// A trade: its number in the day, and the references of buyer and seller.
+// A trade: its number in the day, the references of buyer and seller, and the kind's number, as members see it.
 #[derive(Clone, Copy, PartialEq, Eq, Debug)]
 pub struct Trade {
     pub number: u32,
@@ -29,10 +28,10 @@ pub struct Trade {
     pub seller: u32,
     pub shares: u32,
     pub price: u32,
-    pub kind: Kind,
+    pub kind: u32,
 }
 
-fn trade_of(kind: Kind, number: u32, buyer: u32, seller: u32, shares: u32, price: u32) -> Trade {
+fn trade_of(kind: u32, number: u32, buyer: u32, seller: u32, shares: u32, price: u32) -> Trade {
     Trade {
         number,
         buyer,
@@ -44,15 +43,15 @@ fn trade_of(kind: Kind, number: u32, buyer: u32, seller: u32, shares: u32, price
 }
 
 pub fn sdl_dark(number: u32, buyer: u32, seller: u32, shares: u32, price: u32) -> Trade {
-    trade_of(Kind::SdlDark, number, buyer, seller, shares, price)
+    trade_of(1, number, buyer, seller, shares, price)
 }
 
 pub fn sdl_lit(number: u32, buyer: u32, seller: u32, shares: u32, price: u32) -> Trade {
-    trade_of(Kind::SdlLit, number, buyer, seller, shares, price)
+    trade_of(2, number, buyer, seller, shares, price)
 }
 
 pub fn dark_dark(number: u32, buyer: u32, seller: u32, shares: u32, price: u32) -> Trade {
-    trade_of(Kind::DarkDark, number, buyer, seller, shares, price)
+    trade_of(3, number, buyer, seller, shares, price)
 }
 
 // What a test sees of a resting order: a Dark order's minimum or a lit order's price is its `term`.
@@ -151,7 +150,7 @@ impl From<&Fill<u32>> for Trade {
     fn from(f: &Fill<u32>) -> Trade {
         let buyer = named(f.buyer.member, f.buyer.reference);
         let seller = named(f.seller.member, f.seller.reference);
-        trade_of(f.kind, f.number, buyer, seller, f.shares, f.price)
+        trade_of(f.kind.number(), f.number, buyer, seller, f.shares, f.price)
     }
 }
 

@@ -28,4 +28,6 @@ mod queues;
 #[cfg(test)]
 mod quotes;
 #[cfg(test)]
+mod references;
+#[cfg(test)]
 mod seeking;

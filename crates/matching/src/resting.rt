@@ -1,10 +1,10 @@
 // What a trade does with a resting order of either table.
-ghost use Rattle.std.specs.Prelude.{◌≡◌, ℕ, ◌+◌, ◌-◌, ◌<◌, ◌≤◌, min, List, ◌++◌, take, drop};
+ghost use Rattle.std.specs.Prelude.{◌≡◌, ℕ, ◌+◌, ◌-◌, ◌<◌, ◌≤◌, min, List, take, drop};
 ghost use Rattle.std.proofs.Common.{rules};
-ghost use Rattle.queue.specs.Queues.{queued, room, SamePlaces};
+ghost use Rattle.queue.specs.Queues.{queued, SamePlaces};
 ghost use Rattle.matching.specs.declared.active.Progress.{Progress as TheProgress};
 ghost use Rattle.matching.specs.declared.choose.Asker.{Asker as TheAsker};
-ghost use Rattle.matching.specs.Sweep.{asks_darks, asks_lits, dark_after, lit_after, dark_left, dark_back, lit_back, dark_progress, lit_progress};
+ghost use Rattle.matching.specs.Sweep.{asks_darks, asks_lits, dark_after, lit_after, dark_back, lit_back, dark_progress, lit_progress};
 
 use crate::active::{Form, Progress};
 use crate::choose::{Asker, Offer};
@@ -54,17 +54,6 @@ pub trait Resting<R>: Offer + HasParty<R> + Copy {
     ghost leaves: { (n : ℕ) (x : Self) → remaining (after n x) ≡ remaining x - n };
 
     ghost spends: { (n p : ℕ) (g : TheProgress R) → (progress n p g).active.remaining ≡ g.active.remaining - n };
-}
-
-// What is left of an order out of the queue joins the end.
-pub fn join<R: Copy>(darks: &mut Queue<DarkOrder<R>>, d: DarkOrder<R>)
-    requires { darks.old.len < room darks.old }
-    ensures list { queued darks.new ≡ queued darks.old ++ dark_left d }
-    ensures same { SamePlaces darks.old darks.new }
-{
-    if d.remaining > 0 {
-        darks.append(d);
-    }
 }
 
 // What is left of a Dark order goes to the end.

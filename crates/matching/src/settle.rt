@@ -7,8 +7,8 @@ ghost use Rattle.matching.specs.Tables.{tables, SameTables, RoomFor, NumbersFor}
 
 use crate::active::{Active, DarkForm, Form, Priorities, Progress};
 use crate::meets::meets_dark_order;
-use crate::resting::join;
 use crate::sweep::{dark_terms, sweep};
+use crate::trade::join;
 use market::orders::{DarkOrder, Fill, LitOrder};
 use market::quotes::{Away, Quote};
 use priority::priority::Priority;

@@ -1,13 +1,13 @@
 // One trade of a sweep, and what it leaves.
-ghost use Rattle.std.specs.Prelude.{◌≡◌, ◌+◌, ◌<◌, ◌≤◌, min, [], ◌∷◌, take, drop, slice_index_or};
+ghost use Rattle.std.specs.Prelude.{◌≡◌, ◌+◌, ◌<◌, ◌≤◌, min, [], ◌∷◌, ◌++◌, take, drop, slice_index_or};
 ghost use Rattle.queue.specs.Queues.{queued, room, SamePlaces, Appended};
-ghost use Rattle.matching.specs.Sweep.{active_after, traded, fill_of, shares_with};
+ghost use Rattle.matching.specs.Sweep.{active_after, traded, fill_of, dark_left, shares_with};
 ghost use Rattle.matching.specs.Settle.{not_begun};
 
 use crate::active::{Active, Found, Progress};
 use crate::resting::Resting;
 use market::codes::Side;
-use market::orders::{Fill, Party};
+use market::orders::{DarkOrder, Fill, Party};
 use queue::queue::Queue;
 
 impl<R: Copy> Active<R> {
@@ -78,6 +78,17 @@ fn fill_with<R: Copy, T: Resting<R>>(
         shares,
         price,
         kind: T::asker(g).kind,
+    }
+}
+
+// What is left of an order out of the queue joins the end.
+pub fn join<R: Copy>(darks: &mut Queue<DarkOrder<R>>, d: DarkOrder<R>)
+    requires { darks.old.len < room darks.old }
+    ensures list { queued darks.new ≡ queued darks.old ++ dark_left d }
+    ensures same { SamePlaces darks.old darks.new }
+{
+    if d.remaining > 0 {
+        darks.append(d);
     }
 }
 

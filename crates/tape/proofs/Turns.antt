@@ -1,5 +1,5 @@
 -- One call of a setup, as code makes it.
-use Rattle.std.proofs.Common.{◌≡◌, ℕ, ◌+◌, ◌<◌, ◌≤◌, List, [], ◌∷◌, length, get_or, drop, Ok, Err, Result, sym, refl, subst, subst₂}
+use Rattle.std.proofs.Common.{◌≡◌, ℕ, ◌+◌, ◌<◌, ◌≤◌, List, [], ◌∷◌, length, get_or, drop, Ok, Err, Result, sym, refl, subst, subst₂, ◌∙◌}
 use Rattle.std.specs.Result.{MatchResult}
 use Rattle.std.proofs.lemmas.List.{drop_all, drop_more}
 use Rattle.market.specs.declared.orders.Fill.{Fill}
@@ -7,7 +7,7 @@ use Rattle.book.specs.declared.book.Book.{Book}
 use Rattle.book.specs.declared.call.Call.{Call}
 use Rattle.book.specs.declared.memory.Memory.{Memory as Lent}
 use Rattle.book.specs.Grounds.{Facility, State}
-use Rattle.book.specs.Steps.{Answer, Called, Served, state_in, lengths_of}
+use Rattle.book.specs.Steps.{Answer, Called, SameMemory, Served, state_in, lengths_of}
 use Rattle.rules.specs.Cases.{facility, memory}
 use Rattle.rules.specs.Examples.{Brings, done, next}
 
@@ -50,3 +50,7 @@ not_refused e = cc
 -- an answer keeps its counts where only a refusal is told otherwise
 pub kept : {X E F : Type 0} (P : E → Type 0) (r : Result X E) (s : Result X F) (x : X) → MatchResult r (λ y. s ≡ Ok y) P → Ok x ≡ r → s ≡ Ok x
 kept P r s x m e = subst (λ v. MatchResult v (λ y. s ≡ Ok y) P) (sym e) m
+
+-- memory that is the same after one call and after the next is the same after both
+pub still_same : {R : Type 0} {a b c : Lent R} → SameMemory a b → SameMemory b c → SameMemory a c
+still_same h k = record { lengths = k.lengths ∙ h.lengths; dark = k.dark ∙ h.dark; lit = k.lit ∙ h.lit; fills = k.fills ∙ h.fills }

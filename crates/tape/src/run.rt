@@ -1,6 +1,6 @@
 // A worked example run through the engine.
 ghost use Rattle.std.specs.Prelude.{◌≡◌};
-ghost use Rattle.book.specs.Steps.{New, lengths_of};
+ghost use Rattle.book.specs.Steps.{New, SameMemory, lengths_of};
 ghost use Rattle.rules.specs.Cases.{memory as places};
 ghost use Rattle.tape.specs.Runs.{Brought, ComesTo};
 
@@ -68,6 +68,7 @@ fn bring_about(
     requires memory { lengths_of memory.old ≡ places }
     ensures lot { book.new.core.lot ≡ 100 }
     ensures memory { lengths_of memory.new ≡ places }
+    ensures same { SameMemory memory.old memory.new }
     ensures brought { Brought calls.now book.old memory.old result book.new memory.new }
 {
     for (i, call) in calls.iter().enumerate() {
@@ -80,10 +81,11 @@ fn bring_about(
     Ok(())
 }
 
-// An example's calls on a new book; its trades are the first places of the list that is lent.
+// An example's calls on a new book, over memory that stays the caller's; its trades are the first places of the list.
 pub fn run(example: Example, memory: &mut Memory<u32>) -> Result<Outcome, Refused>
     requires { lengths_of memory.old ≡ places }
-    ensures { ComesTo example result memory.new.fills.now }
+    ensures same { SameMemory memory.old memory.new }
+    ensures trades { ComesTo example result memory.new.fills.now }
 {
     let mut book = new_book();
     let calls = example.setup();

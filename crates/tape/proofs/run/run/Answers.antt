@@ -11,8 +11,8 @@ use Rattle.tape.proofs.run.run.Goals as goal
 same_counts : {X F : Type 0} (x y : X) → ◌≡◌ {A = Result X F} (Ok x) (Ok y) → x ≡ y
 same_counts x y e = ap (λ r. result_unwrap_or r x) e
 
-pub returns-in_err-bring_about : goal.returns-in_err-bring_about
-returns-in_err-bring_about c =
+pub returns-in_err-bring_about-clause-trades : goal.returns-in_err-bring_about-clause-trades
+returns-in_err-bring_about-clause-trades c =
     let e = c.args.example in
     let m = c.args.memory.now in
     let w = set_up c.new_book-book.result m.dark.now m.lit.now c.new_book-book.ensures e c.setup-calls.result.now c.setup-calls.ensures in
@@ -31,15 +31,15 @@ the_call : (c : After-apply) → Called facility (state_in c.bring_about.new.boo
     c.apply.result (state_in c.apply.new.self c.apply.new.memory) c.apply.new.memory.fills.now
 the_call c = as_called c.last.result c.bring_about.ensures.lot c.bring_about.ensures.memory c.apply.ensures
 
-pub returns-in_err-trades : goal.returns-in_err-trades
-returns-in_err-trades c =
-    let k = (goal.at.returns-in_err-trades c).After-apply in
+pub returns-in_err-trades-clause-trades : goal.returns-in_err-trades-clause-trades
+returns-in_err-trades-clause-trades c =
+    let k = (goal.at.returns-in_err-trades-clause-trades c).After-apply in
     let a = answered c.args.example _ _ _ _ _ _ (the_book k) c.last.ensures (the_call k) in
     absurd (not_refused (sym (kept _ c.apply.result c.map_err.result _ c.map_err.ensures.cases a) ∙ c.in_err-trades.was))
 
-pub returns : goal.returns
-returns c =
-    let k = (goal.at.returns c).After-apply in
+pub returns-clause-trades : goal.returns-clause-trades
+returns-clause-trades c =
+    let k = (goal.at.returns-clause-trades c).After-apply in
     let a = answered c.args.example _ _ _ _ _ _ (the_book k) c.last.ensures (the_call k) in
     came_out c.args.example _ _ _ _ _ _ (the_book k) c.last.ensures (the_call k) _ _ _
     (sym a ∙ ap Ok (same_counts _ _ (sym (kept _ c.apply.result c.map_err.result _ c.map_err.ensures.cases a) ∙ c.in_ok-trades.was)))
